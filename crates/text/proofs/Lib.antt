@@ -1,3 +1,5 @@
 pub mod Texts
 pub mod InverseLaws
 pub mod Tests
+pub mod Settled
+pub mod Determined

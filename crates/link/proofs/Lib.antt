@@ -1,0 +1,12 @@
+pub mod Laws
+-- Assumes nothing.
+pub mod Shapes
+pub mod Judged
+pub mod Held
+pub mod Framed
+pub mod Frames
+pub mod Delivers
+pub mod Closed
+pub mod Whole
+pub mod Claimed
+pub mod Determined
