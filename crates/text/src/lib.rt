@@ -1,6 +1,8 @@
 // Texts in parts of a buffer: what every field shares.
 //
 // A text is a run of bytes. Each call takes any bytes and has one outcome; none asks anything of its caller.
+#![tactic(auto)]
+
 ghost use Rattle.std.specs.Prelude.{◌≡◌};
 ghost use Rattle.text.specs.Text.{eq_l, agree, digit_of, laid_at};
 
