@@ -1,20 +1,19 @@
 -- The crate's theorems, from the laws of the receiver, of closed frames and of test characters.
 -- Assumes nothing.
-use Rattle.std.proofs.Common.{◌≡◌, ℕ, zero, suc, ◌+◌, ◌-◌, ◌*◌, ◌/◌, ◌%◌, ◌^◌, ◌<◌, ◌≤◌, Bool, true, false, not, eqb, ltb, ◌⊎◌, List, [], ◌∷◌, ◌++◌, length, get_or, take, drop, sym, refl, ap, ◌∙◌, inl, inr, zero-add, arith, length-drop, take-append-drop, drop_of_length-le, length-take-le, get_or-drop, take_all, drop-cons, get_or-take, take-suc, drop-drop, ltb-false, ltb-true, le-ltb, eq-eqb, eqb-true}
-use borrow.Author.Tests.{not-false}
+use Rattle.std.proofs.Common.{◌≡◌, ℕ, zero, suc, ◌+◌, ◌-◌, ◌%◌, ◌<◌, ◌≤◌, Bool, true, false, not, eqb, ltb, ◌⊎◌, List, [], ◌∷◌, ◌++◌, length, get_or, take, drop, sym, refl, ap, ◌∙◌, inl, inr, zero-add, arith, drop_of_length-le, length-take-le, take_all, get_or-take, take-suc, drop-drop, ltb-false, le-ltb, eqb-true}
 use lib.Bits.{bit_xor, bit_or, xor_add_and, or_shifted_r}
 use Rattle.text.specs.Choice.{if◌then◌else◌, either}
 use Rattle.link.specs.Settings.{settings_offered, procedure_offered, procedure_a, procedure_b}
-use Rattle.link.specs.Characters.{STX, ETX, CR, xor_of, sum_of, hex_of, pair_of, shaped}
+use Rattle.link.specs.Characters.{STX, ETX, xor_of, sum_of, hex_of, pair_of, shaped}
 use Rattle.link.specs.Control.{END, SPM, MOR, REP, control_code, control_frame, control_outcome}
 use Rattle.link.specs.Outer.{marked, by_code, outer_of}
-use Rattle.link.specs.Cut.{receive_of, first_from, fresh, Handed, none, after, Event, listed, events_from, frames_in, fed_next, fed_of}
-use Rattle.link.specs.Framed.{Framed, Sound, After, AllFramed}
+use Rattle.link.specs.Cut.{receive_of, first_from, fresh, Handed, none, after, listed, events_from, frames_in, fed_next, fed_of}
+use Rattle.link.specs.Framed.{Sound, After, AllFramed}
 use Rattle.link.specs.Claims.{HandsOverFrames, Delivers, met_next, met, FinderFollows, fed_events, FeedFollows, control_outer, ControlPasses, OneProcedure}
 use Rattle.link.specs.declared.settings.Settings.{Settings}
 use Rattle.link.specs.declared.cut.Received.{Received}
 use Rattle.link.specs.declared.cut.Received.TheVariants.{Nothing, Frame, Dropped, Refused}
-use Rattle.link.proofs.Shapes.{Shaped, shaped_is, passed, both_true, either_true}
+use Rattle.link.proofs.Shapes.{shaped_is, passed, both_true, either_true}
 use Rattle.link.proofs.Held.{fresh_long}
 use Rattle.link.proofs.Framed.{received, sound_none}
 use Rattle.link.proofs.Frames.{frames_from, Told, first_told}

@@ -1,7 +1,7 @@
 -- What is written is a frame that a receiver hands over: STX first, CR last, and neither in between.
 -- Assumes nothing.
-use Rattle.std.proofs.Common.{◌≡◌, ℕ, zero, suc, ◌+◌, ◌-◌, ◌/◌, ◌%◌, ◌<◌, ◌≤◌, Bool, true, false, eqb, ltb, List, [], ◌∷◌, ◌++◌, length, get_or, take, drop, sym, refl, ◌∙◌, arith, length-append, get_or-append-add, below_more}
-use lib.Bits.{bit_or, bit_and, or_add_and, and_le_l}
+use Rattle.std.proofs.Common.{◌≡◌, ℕ, zero, suc, ◌+◌, ◌-◌, ◌/◌, ◌%◌, ◌<◌, ◌≤◌, Bool, true, false, eqb, ltb, List, [], ◌∷◌, length, get_or, take, drop, refl, ◌∙◌, arith, length-append, get_or-append-add, below_more}
+use lib.Bits.{bit_or, or_add_and, and_le_l}
 use lib.ListN.{get_or-append}
 use lib.Seq.{get_or-append_seam}
 use Rattle.text.specs.Choice.{if◌then◌else◌}

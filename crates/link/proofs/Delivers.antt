@@ -1,11 +1,11 @@
 -- A frame goes through: whatever a receiver holds, it hands over exactly the frame that it is fed, at its last byte.
 -- Assumes nothing.
-use Rattle.std.proofs.Common.{◌≡◌, ℕ, zero, suc, ◌+◌, ◌-◌, ◌<◌, ◌≤◌, List, [], ◌∷◌, ◌++◌, length, get_or, take, drop, set, sym, refl, ap, ◌∙◌, add-one, arith, length-set, drop_of_length-le, take_all, take-suc, take-suc-set, le-ltb, eq-eqb, ne_eqb}
+use Rattle.std.proofs.Common.{◌≡◌, ℕ, zero, suc, ◌+◌, ◌-◌, ◌<◌, ◌≤◌, List, ◌++◌, length, get_or, take, drop, set, refl, ap, ◌∙◌, add-one, arith, length-set, take_all, take-suc, take-suc-set, le-ltb, eq-eqb, ne_eqb}
 use Rattle.link.specs.Characters.{STX, CR}
-use Rattle.link.specs.Cut.{act_of, done, onward, handed_from, Handed, after}
+use Rattle.link.specs.Cut.{act_of, done, onward, handed_from, after}
 use Rattle.link.specs.Framed.{Plain, Framed}
 use Rattle.link.specs.declared.cut.Act.{Act}
-use Rattle.link.specs.declared.cut.Act.TheVariants.{Refuse, Begin, Skip, Drop, Close, Keep}
+use Rattle.link.specs.declared.cut.Act.TheVariants.{Begin, Close, Keep}
 use Rattle.link.proofs.Laws.{rest}
 
 -- the acts, from what holds of the count and the byte

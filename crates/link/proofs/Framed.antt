@@ -1,8 +1,7 @@
 -- A receiver that starts fresh, or sound, hands over only frames that begin with STX, end with CR and hold neither in between, and stays sound.
 -- Assumes nothing.
-use Rattle.std.proofs.Common.{◌≡◌, ℕ, ◌+◌, ◌-◌, ◌<◌, ◌≤◌, List, [], ◌∷◌, length, get_or, take, drop, set, sym, refl, ap, ◌∙◌, subst, arith, length-set, length-take-le, get_or-set_other, get_or-take, get_or-set_same, below_more}
-use Rattle.link.specs.Characters.{STX, CR}
-use Rattle.link.specs.Cut.{act_of, done, receive_of, onward, handed_from, first_from, fresh, Handed, none, after}
+use Rattle.std.proofs.Common.{◌≡◌, ℕ, ◌+◌, ◌-◌, ◌<◌, List, [], ◌∷◌, length, get_or, take, drop, set, refl, ◌∙◌, arith, length-set, length-take-le, get_or-set_other, get_or-take, get_or-set_same, below_more}
+use Rattle.link.specs.Cut.{act_of, done, receive_of, onward, handed_from, first_from, fresh, Handed}
 use Rattle.link.specs.Framed.{Plain, Framed, Sound, After, FramedIf}
 use Rattle.link.specs.declared.cut.Act.{Act}
 use Rattle.link.specs.declared.cut.Act.TheVariants.{Refuse, Begin, Skip, Drop, Close, Keep}

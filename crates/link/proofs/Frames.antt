@@ -1,15 +1,15 @@
 -- The finder, started again after each frame, meets the frames that one receiver hands over as it runs on.
 -- Assumes nothing.
 use Rattle.std.proofs.Common.{◌≡◌, ℕ, suc, ◌+◌, ◌-◌, ◌<◌, ◌≤◌, List, [], ◌∷◌, length, take, drop, set, sym, refl, ap, ◌∙◌, subst, add-one, arith, length-drop, length-set, length-take-le, drop-drop, take-suc-set}
-use Rattle.link.specs.Cut.{act_of, done, receive_of, onward, handed_from, first_from, fresh, Handed, none, after, span_of, listed, Event, loss, events_from, frames_in, frames_of}
+use Rattle.link.specs.Cut.{act_of, done, receive_of, onward, handed_from, first_from, fresh, Handed, none, after, span_of, listed, Event, loss, events_from, frames_in}
 use Rattle.link.specs.Framed.{Sound, After}
 use Rattle.link.specs.declared.cut.Span.{Span}
 use Rattle.link.specs.declared.cut.Act.{Act}
 use Rattle.link.specs.declared.cut.Act.TheVariants.{Refuse, Begin, Skip, Drop, Close, Keep}
 use Rattle.link.specs.declared.cut.Received.{Received}
 use Rattle.link.specs.declared.cut.Received.TheVariants.{Nothing, Frame, Dropped, Refused}
-use Rattle.link.proofs.Judged.{is_begin, is_close, is_keep}
-use Rattle.link.proofs.Held.{fresh_long, Held, held_close, Ended, nothing, closing, ended}
+use Rattle.link.proofs.Judged.{is_close, is_keep}
+use Rattle.link.proofs.Held.{fresh_long, held_close, Ended, nothing, closing, ended}
 use Rattle.link.proofs.Framed.{received, sound_none}
 
 -- two receivers that hold the same n bytes, whatever stands past them

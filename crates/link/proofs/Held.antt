@@ -1,13 +1,12 @@
 -- A receiver that was fed a capture from `start` up to `at`, has handed over nothing, and holds n bytes: those are the n bytes before `at`.
 -- Assumes nothing.
-use Rattle.std.proofs.Common.{◌≡◌, ℕ, zero, suc, ◌+◌, ◌-◌, ◌<◌, ◌≤◌, List, [], ◌∷◌, ◌++◌, length, get_or, take, drop, set, sym, refl, ap, ◌∙◌, subst, add-one, arith, length-drop, length-set, drop_of_length-le, length-take-le, get_or-drop, take-suc, take-suc-set}
-use Rattle.link.specs.Characters.{STX, CR}
-use Rattle.link.specs.Cut.{act_of, done, onward, handed_from, first_from, fresh, span_of, bytes_of, Handed, none, after}
+use Rattle.std.proofs.Common.{◌≡◌, ℕ, zero, suc, ◌+◌, ◌-◌, ◌<◌, ◌≤◌, List, length, get_or, take, drop, set, sym, refl, ap, ◌∙◌, subst, add-one, arith, length-drop, length-set, drop_of_length-le, length-take-le, get_or-drop, take-suc, take-suc-set}
+use Rattle.link.specs.Cut.{act_of, done, onward, handed_from, first_from, fresh, span_of, bytes_of, none, after}
 use Rattle.link.specs.declared.cut.Span.{Span}
 use Rattle.link.specs.declared.cut.Act.{Act}
 use Rattle.link.specs.declared.cut.Act.TheVariants.{Refuse, Begin, Skip, Drop, Close, Keep}
 use Rattle.link.proofs.Laws.{rest}
-use Rattle.link.proofs.Judged.{is_begin, is_close, is_keep, is_refuse}
+use Rattle.link.proofs.Judged.{is_close, is_keep, is_refuse}
 
 pub record Held (s : List ℕ) (start n at : ℕ) : Type 0 where
   pub held : List ℕ

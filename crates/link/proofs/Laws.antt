@@ -1,6 +1,6 @@
 -- Folds over a slice, one byte a turn.
 -- Assumes nothing.
-use Rattle.std.proofs.Common.{◌≡◌, ℕ, suc, ◌+◌, ◌%◌, ◌<◌, ◌≤◌, List, [], ◌∷◌, length, get_or, drop, sym, refl, ap, ◌∙◌, add-one, arith, drop_of_length-le, drop-cons}
+use Rattle.std.proofs.Common.{◌≡◌, ℕ, ◌+◌, ◌<◌, ◌≤◌, List, ◌∷◌, length, get_or, drop, add-one, drop_of_length-le, drop-cons}
 use lib.Bits.{bit_xor}
 use Rattle.link.specs.Characters.{xor_of, sum_of}
 use Rattle.link.specs.Cut.{receive_of}

@@ -1,6 +1,6 @@
 -- What the shape of a frame says, and how it is shown.
 -- Assumes nothing.
-use Rattle.std.proofs.Common.{◌≡◌, ℕ, ◌-◌, ◌≤◌, Bool, true, false, not, eqb, ltb, ◌⊎◌, List, length, get_or, sym, refl, inl, inr, arith, ltb-false, le-ltb, eq-eqb, eqb-true}
+use Rattle.std.proofs.Common.{◌≡◌, ℕ, ◌-◌, ◌≤◌, Bool, true, false, not, eqb, ltb, ◌⊎◌, List, length, get_or, refl, inl, inr, arith, ltb-false, le-ltb, eq-eqb, eqb-true}
 use borrow.Author.Tests.{not-false}
 use Rattle.text.specs.Choice.{if◌then◌else◌, both, either}
 use Rattle.link.specs.Characters.{STX, ETX, CR, shaped}

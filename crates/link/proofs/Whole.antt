@@ -1,13 +1,13 @@
 -- A frame that is closed over a front from STX to ETX, of 3 to 252 bytes, is in shape and has the test characters due.
 -- Assumes nothing.
-use Rattle.std.proofs.Common.{◌≡◌, ℕ, ◌+◌, ◌-◌, ◌<◌, ◌≤◌, true, List, [], ◌∷◌, ◌++◌, length, get_or, take, refl, ◌∙◌, arith, length-append, get_or-append-add, le-ltb, eq-eqb}
+use Rattle.std.proofs.Common.{◌≡◌, ℕ, ◌+◌, ◌-◌, ◌≤◌, true, List, [], ◌∷◌, length, get_or, take, refl, ◌∙◌, arith, length-append, get_or-append-add, eq-eqb}
 use lib.ListN.{get_or-append}
 use lib.Seq.{take-append_seam}
 use Rattle.link.specs.Characters.{pair_of}
 use Rattle.link.specs.Characters.{STX, ETX, CR, shaped}
-use Rattle.link.specs.Control.{closed, control_frame}
+use Rattle.link.specs.Control.{closed}
 use Rattle.link.specs.Outer.{marked}
-use Rattle.link.proofs.Shapes.{Shaped, shaped_by}
+use Rattle.link.proofs.Shapes.{shaped_by}
 
 module _ (p : ℕ) (front : List ℕ) where
   abbrev tail : List ℕ

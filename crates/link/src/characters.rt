@@ -11,14 +11,14 @@ pub const ETX: u8 = 3;
 pub const CR: u8 = 13;
 
 // The two characters, as they stand at L-2 and L-1.
-#[derive(Drop)]
+#[derive(Clone, Copy)]
 pub struct Pair {
     pub first: u8,
     pub second: u8,
 }
 
 // The test characters due for a frame; 0 and 0 where it is refused.
-#[derive(Drop)]
+#[derive(Clone, Copy)]
 pub struct Due {
     pub refusal: Refusal,
     pub first: u8,

@@ -11,7 +11,7 @@ use crate::settings::{ACCEPTED, BAD_STATE, MISSHAPEN, Refusal};
 pub const HOLDS: usize = 255;
 
 // What a byte does to a receiver that holds `count` bytes.
-#[derive(Drop)]
+#[derive(Clone, Copy)]
 pub enum Act {
     Refuse,
     Begin,
@@ -42,7 +42,7 @@ fn judge(count: usize, byte: u8) -> Act
     Act::Keep
 }
 
-#[derive(Drop)]
+#[derive(Clone, Copy)]
 pub enum Received {
     // No frame yet; so many bytes are held now.
     Nothing(usize),
@@ -96,7 +96,7 @@ pub fn refusal_in(received: Received) -> Refusal
 }
 
 // A part of a capture; `len` is 0 where there is none.
-#[derive(Drop)]
+#[derive(Clone, Copy)]
 pub struct Span {
     pub at: usize,
     pub len: usize,

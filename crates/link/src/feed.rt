@@ -4,7 +4,7 @@ ghost use Rattle.link.specs.Cut.{fed_of};
 
 use crate::cut::{HOLDS, Received, receive};
 
-#[derive(Drop)]
+#[derive(Clone, Copy)]
 pub enum Fed {
     // All bytes are used up; so many are held.
     More(usize),

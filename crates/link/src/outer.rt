@@ -11,7 +11,7 @@ use crate::settings::{
 };
 
 // More is MOR or ANY, by who sent it.
-#[derive(Drop)]
+#[derive(Clone, Copy)]
 pub enum Outer {
     End,
     Spm,

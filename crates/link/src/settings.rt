@@ -3,14 +3,14 @@ ghost use Rattle.std.specs.Prelude.{◌≡◌};
 ghost use Rattle.link.specs.Settings.{procedure_offered, id_offered, settings_offered, offered_of};
 
 // The test procedure as a letter, 'a' or 'b', and the length of an ID, 10 or 13.
-#[derive(Drop)]
+#[derive(Clone, Copy)]
 pub struct Settings {
     pub procedure: u8,
     pub id: u8,
 }
 
 // The number of the rules' table, and a place counted from 1; 0 and 0 where nothing is refused.
-#[derive(Drop)]
+#[derive(Clone, Copy)]
 pub struct Refusal {
     pub number: u8,
     pub place: u16,
