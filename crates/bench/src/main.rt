@@ -1,7 +1,10 @@
 // The cases of the bench that are run, not proved: control frames under both procedures, frames of 255 and 256 bytes, and a noisy line.
+#![tactic(auto)]
+
 use link::characters::{CR, STX};
 use link::control::control_frame;
 use link::cut::{count_frames, find};
+use std::io;
 
 fn hex(digit: u8) -> u8 {
     let h = digit % 16;
@@ -9,65 +12,64 @@ fn hex(digit: u8) -> u8 {
 }
 
 // One byte in hexadecimal, with a space before it.
-fn show_byte(byte: u8) {
-    let text = [b' ', hex(byte / 16), hex(byte)];
-    io::write_all(1, &text);
+fn show_byte(rt: &impl Print, byte: u8) -> io::Result<()> {
+    let high = char::from(hex(byte / 16));
+    let low = char::from(hex(byte));
+    print!(rt; " {high}{low}")
 }
 
-fn show(frame: &[u8]) {
+fn show(rt: &impl Print, frame: &[u8]) -> io::Result<()> {
     for i in 0..frame.len() {
-        show_byte(frame[i]);
+        show_byte(rt, frame[i])?;
     }
-    io::write_all(1, b"\n");
+    println!(rt; "")
 }
 
 // A control frame as it is written, or the number of its refusal.
-fn control(procedure: u8, code: u8) {
+fn control(rt: &impl Print, procedure: u8, code: u8) -> io::Result<()> {
     let mut out = [0u8; 6];
     let refusal = control_frame(procedure, code, &mut out);
-    let name = [procedure, b' ', code];
-    io::write_all(1, &name);
+    let letter = char::from(procedure);
+    let name = char::from(code);
+    print!(rt; "{letter} {name}")?;
     if refusal.number == 0 {
-        show(&out);
-        return;
+        return show(rt, &out);
     }
-    io::write_all(1, b" refused ");
-    io::print_decimal(1, refusal.number as u64);
-    io::write_all(1, b"\n");
+    let number = refusal.number;
+    println!(rt; " refused {number}")
 }
 
 // How many frames the first bytes of a run give.
-fn count(run: &[u8], end: usize) {
+fn count(rt: &impl Print, run: &[u8], end: usize) -> io::Result<()> {
     if end <= run.len() {
-        io::print_decimal(1, end as u64);
-        io::write_all(1, b" bytes: frames ");
-        io::print_decimal(1, count_frames(&run[..end]) as u64);
-        io::write_all(1, b"\n");
+        let frames = count_frames(&run[..end]);
+        println!(rt; "{end} bytes: frames {frames}")?;
     }
+    Ok(())
 }
 
 // A run that a CR closes at 255 bytes, and one that it would close at 256.
-fn long() {
+fn long(rt: &impl Print) -> io::Result<()> {
     let mut run = [b'A'; 256];
     run[0] = STX;
     run[254] = CR;
-    count(&run, 255);
+    count(rt, &run, 255)?;
     run[254] = b'A';
     run[255] = CR;
-    count(&run, 256);
+    count(rt, &run, 256)
 }
 
-fn main() {
-    control(b'a', b'>');
-    control(b'b', b'>');
-    control(b'a', b'?');
-    control(b'a', b':');
-    control(b'b', b'<');
-    control(b'a', b';');
-    control(b'c', b'>');
-    long();
+fn main(rt: HostRuntime) -> io::Result<()> {
+    control(&rt, b'a', b'>')?;
+    control(&rt, b'b', b'>')?;
+    control(&rt, b'a', b'?')?;
+    control(&rt, b'a', b':')?;
+    control(&rt, b'b', b'<')?;
+    control(&rt, b'a', b';')?;
+    control(&rt, b'c', b'>')?;
+    long(&rt)?;
     let noisy = *b"..\x02<\x02>\x033?\r..\x02:\x033;\r";
-    show(find(&noisy, 0));
-    show(find(&noisy, 6));
-    show(find(&noisy, 16));
+    show(&rt, find(&noisy, 0))?;
+    show(&rt, find(&noisy, 6))?;
+    show(&rt, find(&noisy, 16))
 }
