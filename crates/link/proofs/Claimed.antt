@@ -1,8 +1,8 @@
 -- The crate's theorems, from the laws of the receiver, of closed frames and of test characters.
 -- Assumes nothing.
-use Rattle.std.proofs.Common.{◌≡◌, ℕ, zero, suc, ◌+◌, ◌-◌, ◌%◌, ◌<◌, ◌≤◌, Bool, true, false, not, eqb, ltb, ◌⊎◌, List, [], ◌∷◌, ◌++◌, length, get_or, take, drop, sym, refl, ap, ◌∙◌, inl, inr, zero-add, arith, drop_of_length-le, length-take-le, take_all, get_or-take, take-suc, drop-drop, ltb-false, le-ltb, eqb-true}
+use Rattle.std.proofs.Common.{◌≡◌, ℕ, zero, suc, ◌+◌, ◌-◌, ◌%◌, ◌<◌, ◌≤◌, Bool, true, false, not, eqb, ltb, ◌⊎◌, List, [], ◌∷◌, ◌++◌, length, get_or, take, drop, sym, refl, ap, ◌∙◌, inl, inr, zero-add, arith, drop_of_length-le, length-take-le, take_all, get_or-take, take-suc, drop-drop, ltb-false, le-ltb, eqb-true, if◌then◌else◌}
 use lib.Bits.{bit_xor, bit_or, xor_add_and, or_shifted_r}
-use Rattle.text.specs.Choice.{if◌then◌else◌, either}
+use Rattle.text.specs.Choice.{either}
 use Rattle.link.specs.Settings.{settings_offered, procedure_offered, procedure_a, procedure_b}
 use Rattle.link.specs.Characters.{STX, ETX, xor_of, sum_of, hex_of, pair_of, shaped}
 use Rattle.link.specs.Control.{END, SPM, MOR, REP, control_code, control_frame, control_outcome}

@@ -1,10 +1,9 @@
 -- What is written is a frame that a receiver hands over: STX first, CR last, and neither in between.
 -- Assumes nothing.
-use Rattle.std.proofs.Common.{◌≡◌, ℕ, zero, suc, ◌+◌, ◌-◌, ◌/◌, ◌%◌, ◌<◌, ◌≤◌, Bool, true, false, eqb, ltb, List, [], ◌∷◌, length, get_or, take, drop, refl, ◌∙◌, arith, length-append, get_or-append-add, below_more}
+use Rattle.std.proofs.Common.{◌≡◌, ℕ, zero, suc, ◌+◌, ◌-◌, ◌/◌, ◌%◌, ◌<◌, ◌≤◌, Bool, true, false, eqb, ltb, List, [], ◌∷◌, length, get_or, take, drop, refl, ◌∙◌, arith, length-append, get_or-append-add, below_more, if◌then◌else◌}
 use lib.Bits.{bit_or, or_add_and, and_le_l}
 use lib.ListN.{get_or-append}
 use lib.Seq.{get_or-append_seam}
-use Rattle.text.specs.Choice.{if◌then◌else◌}
 use Rattle.link.specs.Characters.{hex_of, pair_a, pair_b, pair_of, xor_of, sum_of}
 use Rattle.link.specs.Settings.{procedure_a}
 use Rattle.link.specs.declared.characters.Pair.{Pair}

@@ -1,8 +1,7 @@
 -- What each act says of the count and the byte: to match on it in the place of five tests.
 -- Assumes nothing.
-use Rattle.std.proofs.Common.{◌≡◌, ℕ, ◌<◌, ◌≤◌, Bool, true, false, eqb, ltb, refl, subst, arith, ltb-false, ltb-true, eqb-true}
+use Rattle.std.proofs.Common.{◌≡◌, ℕ, ◌<◌, ◌≤◌, Bool, true, false, eqb, ltb, refl, subst, arith, ltb-false, ltb-true, eqb-true, if◌then◌else◌}
 use borrow.Author.Tests.{eqb-false}
-use Rattle.text.specs.Choice.{if◌then◌else◌}
 use Rattle.link.specs.Characters.{STX, CR}
 use Rattle.link.specs.Cut.{act_of}
 use Rattle.link.specs.declared.cut.Act.{Act}

@@ -1,8 +1,8 @@
 -- What the shape of a frame says, and how it is shown.
 -- Assumes nothing.
-use Rattle.std.proofs.Common.{◌≡◌, ℕ, ◌-◌, ◌≤◌, Bool, true, false, not, eqb, ltb, ◌⊎◌, List, length, get_or, refl, inl, inr, arith, ltb-false, le-ltb, eq-eqb, eqb-true}
+use Rattle.std.proofs.Common.{◌≡◌, ℕ, ◌-◌, ◌≤◌, Bool, true, false, not, eqb, ltb, ◌⊎◌, List, length, get_or, refl, inl, inr, arith, ltb-false, le-ltb, eq-eqb, eqb-true, if◌then◌else◌}
 use borrow.Author.Tests.{not-false}
-use Rattle.text.specs.Choice.{if◌then◌else◌, both, either}
+use Rattle.text.specs.Choice.{both, either}
 use Rattle.link.specs.Characters.{STX, ETX, CR, shaped}
 
 -- a test that must be passed: where the whole is true, it was false and the rest is true

@@ -1,7 +1,6 @@
 -- Test characters. Bytes are numbers; `bit_xor` and `bit_or` are the logic's, digit by digit, and compute at bytes.
 -- Assumes nothing.
-use Rattle.std.specs.Prelude.{ℕ, ◌+◌, ◌-◌, ◌/◌, ◌%◌, Bool, false, not, List, [], ◌∷◌, length, take, drop, ◌==◌, bit_or, bit_xor, nat_lt, slice_index}
-use Rattle.text.specs.Choice.{if◌then◌else◌}
+use Rattle.std.specs.Prelude.{ℕ, ◌+◌, ◌-◌, ◌/◌, ◌%◌, Bool, false, not, List, [], ◌∷◌, length, take, drop, ◌==◌, bit_or, bit_xor, nat_lt, slice_index, if◌then◌else◌}
 use Rattle.link.specs.Refusals.{refused, accepted, not_offered, misshapen}
 use Rattle.link.specs.Settings.{procedure_a, procedure_offered}
 use Rattle.link.specs.declared.characters.Pair.{Pair}

@@ -1,7 +1,6 @@
 -- What is proved of the definitions together: each of these is the contract of a function `claim_..`.
 -- Assumes nothing.
-use Rattle.std.specs.Prelude.{◌≡◌, ℕ, zero, suc, ◌≤◌, true, List, [], ◌∷◌, ◌++◌, length, take, drop, ◌==◌, ◌≢◌}
-use Rattle.text.specs.Choice.{if◌then◌else◌}
+use Rattle.std.specs.Prelude.{◌≡◌, ℕ, zero, suc, ◌≤◌, true, List, [], ◌∷◌, ◌++◌, length, take, drop, ◌==◌, ◌≢◌, if◌then◌else◌}
 use Rattle.link.specs.Settings.{settings_offered, procedure_a, procedure_b}
 use Rattle.link.specs.Characters.{shaped}
 use Rattle.link.specs.Control.{END, SPM, MOR, control_code, control_length, control_outcome}

@@ -1,7 +1,7 @@
 -- Control frames. An outcome is the answer and every byte of the lent output, as the call leaves it.
 -- Assumes nothing.
-use Rattle.std.specs.Prelude.{ℕ, Bool, not, List, [], ◌∷◌, ◌++◌, length, drop, ◌==◌, nat_lt}
-use Rattle.text.specs.Choice.{if◌then◌else◌, either}
+use Rattle.std.specs.Prelude.{ℕ, Bool, not, List, [], ◌∷◌, ◌++◌, length, drop, ◌==◌, nat_lt, if◌then◌else◌}
+use Rattle.text.specs.Choice.{either}
 use Rattle.link.specs.Refusals.{refused, accepted, not_offered, unknown, no_room}
 use Rattle.link.specs.Settings.{procedure_offered}
 use Rattle.link.specs.Characters.{STX, ETX, CR, pair_of}

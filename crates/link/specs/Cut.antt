@@ -1,7 +1,6 @@
 -- Cutting bytes into frames: the receiver, one byte at a time, and what it means to run it over many.
 -- Assumes nothing.
-use Rattle.std.specs.Prelude.{ℕ, ◌+◌, ◌-◌, List, [], ◌∷◌, length, take, drop, replicate, ◌==◌, nat_lt, slice_set}
-use Rattle.text.specs.Choice.{if◌then◌else◌}
+use Rattle.std.specs.Prelude.{ℕ, ◌+◌, ◌-◌, List, [], ◌∷◌, length, take, drop, replicate, ◌==◌, nat_lt, slice_set, if◌then◌else◌}
 use Rattle.link.specs.Refusals.{refused, accepted, misshapen, bad_state}
 use Rattle.link.specs.Characters.{STX, CR}
 use Rattle.link.specs.declared.settings.Refusal.{Refusal}

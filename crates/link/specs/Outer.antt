@@ -1,7 +1,6 @@
 -- The outer form of a frame: refusals 1 to 5, in this order, or what kind of frame it is.
 -- Assumes nothing.
-use Rattle.std.specs.Prelude.{ℕ, ◌-◌, Bool, false, not, List, length, take, ◌==◌, slice_index}
-use Rattle.text.specs.Choice.{if◌then◌else◌}
+use Rattle.std.specs.Prelude.{ℕ, ◌-◌, Bool, false, not, List, length, take, ◌==◌, slice_index, if◌then◌else◌}
 use Rattle.link.specs.Refusals.{refused, not_offered, misshapen, untrue, unknown, mislength}
 use Rattle.link.specs.Settings.{settings_offered, short_id}
 use Rattle.link.specs.Characters.{shaped, pair_of}

@@ -1,7 +1,7 @@
 -- A link's settings: a test procedure and an ID length.
 -- Assumes nothing.
-use Rattle.std.specs.Prelude.{ℕ, Bool, ◌==◌}
-use Rattle.text.specs.Choice.{if◌then◌else◌, both, either}
+use Rattle.std.specs.Prelude.{ℕ, Bool, ◌==◌, if◌then◌else◌}
+use Rattle.text.specs.Choice.{both, either}
 use Rattle.link.specs.Refusals.{refused, accepted, not_offered}
 use Rattle.link.specs.declared.settings.Refusal.{Refusal}
 use Rattle.link.specs.declared.settings.Settings.{Settings}

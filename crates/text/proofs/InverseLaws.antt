@@ -5,9 +5,9 @@ use native.Mathlib.Omega.{arith}
 use mathlib.Core.Path.{◌≡◌, refl, sym, ap, ◌∙◌}
 use mathlib.Core.Bool.{Bool, true, false}
 use mathlib.Core.Option.{Option, none, some}
-use Rattle.text.specs.Choice.{if◌then◌else◌}
 use lib.ListN.{length}
 use mathlib.Core.List.{List}
+use Rattle.std.proofs.Common.{if◌then◌else◌}
 use Rattle.text.specs.Text.{eq_l}
 use Rattle.text.specs.Inverse.{checked, Reads, below, Faithful}
 use Rattle.text.proofs.Texts.{eq_l-eq, eq_l-refl}

@@ -11,7 +11,7 @@ use lib.Seq.{drop-cons, drop-length, set_split, drop_at, length-take-le, paste, 
 use native.Mathlib.Omega.{arith}
 use native.Mathlib.Numerals.{add-one}
 use borrow.Author.Tests.{eqb-true, eq-eqb, ne_eqb, lt-ltb, le-ltb, le-leb, lt-leb}
-use Rattle.text.specs.Choice.{if◌then◌else◌}
+use Rattle.std.proofs.Common.{if◌then◌else◌}
 use Rattle.text.specs.Text.{eq_l, agree, first_with, dec_to, laid_at}
 
 pub eq_l-refl : (a : List ℕ) → eq_l a a ≡ true

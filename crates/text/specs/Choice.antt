@@ -1,11 +1,6 @@
--- A case by a test, as the rules have it: if .. then .. else ..
+-- Tests joined. A case by a test, if .. then .. else .., is the library's.
 -- Assumes nothing.
 use Rattle.std.specs.Prelude.{Bool, true, false}
-
-infixr 5 if◌then◌else◌
-abbrev pub if◌then◌else◌ {ℓ} : {A : Type ℓ} → Bool → A → A → A
-if◌then◌else◌ true a b = a
-if◌then◌else◌ false a b = b
 
 -- both tests
 abbrev pub both : Bool → Bool → Bool

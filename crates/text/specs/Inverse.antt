@@ -1,9 +1,9 @@
 -- Reading as the inverse of writing. A field's value has a text, and numbers in the packed record; reading either is told by what
 -- values show, so that the grammar is written once: the value that shows so, or none.
 -- Assumes nothing.
-use Rattle.std.specs.Prelude.{ℕ, ◌^◌, ◌≡◌, Bool, true, false, List, [], ◌∷◌, ltb, length}
+use Rattle.std.specs.Prelude.{ℕ, ◌^◌, ◌≡◌, Bool, true, false, List, [], ◌∷◌, ltb, length, if◌then◌else◌}
 use Rattle.std.proofs.Math.Option.{Option, none, some}
-use Rattle.text.specs.Choice.{if◌then◌else◌, both}
+use Rattle.text.specs.Choice.{both}
 
 -- what reading x means, said by what values show alone: the value that fits and shows as x, or none
 pub record Reads {A X : Type 0} (show : A → X) (fits : A → Bool) (x : X) (r : Option A) : Type 0 where

@@ -1,8 +1,7 @@
 -- Texts are lists of bytes: equality as a test, digits, right alignment, a run of bytes laid over another.
 -- Assumes nothing.
-use Rattle.std.specs.Prelude.{ℕ, zero, suc, ◌+◌, ◌-◌, ◌/◌, ◌%◌, Bool, true, false, List, [], ◌∷◌, ◌++◌, eqb, ltb, leb, length, take, drop, replicate}
+use Rattle.std.specs.Prelude.{ℕ, zero, suc, ◌+◌, ◌-◌, ◌/◌, ◌%◌, Bool, true, false, List, [], ◌∷◌, ◌++◌, eqb, ltb, leb, length, take, drop, replicate, if◌then◌else◌}
 use Rattle.std.proofs.Math.Option.{Option, none, some}
-use Rattle.text.specs.Choice.{if◌then◌else◌}
 
 -- whether two lists are the same, element by element
 abbrev pub eq_l : List ℕ → List ℕ → Bool
