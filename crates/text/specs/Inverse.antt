@@ -1,7 +1,7 @@
 -- Reading as the inverse of writing. A field's value has a text, and numbers in the packed record; reading either is told by what
 -- values show, so that the grammar is written once: the value that shows so, or none.
 -- Assumes nothing.
-use Rattle.std.specs.Prelude.{ℕ, ◌^◌, ◌≡◌, Bool, true, false, List, [], ◌∷◌, ltb, length, if◌then◌else◌}
+use Rattle.std.specs.Prelude.{ℕ, ◌^◌, ◌≡◌, Bool, true, false, List, [], ◌∷◌, length, nat_lt, if◌then◌else◌}
 use Rattle.std.proofs.Math.Option.{Option, none, some}
 use Rattle.text.specs.Choice.{both}
 
@@ -20,7 +20,7 @@ abbrev pub below : List ℕ → List ℕ → Bool
 below [] [] = true
 below [] (v ∷ vs) = false
 below (w ∷ ws) [] = false
-below (w ∷ ws) (v ∷ vs) = both (ltb v (2 ^ w)) (below ws vs)
+below (w ∷ ws) (v ∷ vs) = both (nat_lt v (2 ^ w)) (below ws vs)
 
 -- what every kind of field owes: what was read writes back the same bytes, what was written reads back the same value, what is no
 -- value's text is refused; the same of its packed numbers; texts of one width, numbers within their bits

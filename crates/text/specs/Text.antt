@@ -1,6 +1,6 @@
 -- Texts are lists of bytes: equality as a test, digits, right alignment, a run of bytes laid over another.
 -- Assumes nothing.
-use Rattle.std.specs.Prelude.{ℕ, zero, suc, ◌+◌, ◌-◌, ◌/◌, ◌%◌, Bool, true, false, List, [], ◌∷◌, ◌++◌, eqb, ltb, leb, length, take, drop, replicate, if◌then◌else◌}
+use Rattle.std.specs.Prelude.{ℕ, zero, suc, ◌+◌, ◌-◌, ◌/◌, ◌%◌, Bool, true, false, List, [], ◌∷◌, ◌++◌, length, take, drop, replicate, ◌==◌, nat_lt, nat_le, if◌then◌else◌}
 use Rattle.std.proofs.Math.Option.{Option, none, some}
 
 -- whether two lists are the same, element by element
@@ -8,7 +8,7 @@ abbrev pub eq_l : List ℕ → List ℕ → Bool
 eq_l [] [] = true
 eq_l [] (y ∷ ys) = false
 eq_l (x ∷ xs) [] = false
-eq_l (x ∷ xs) (y ∷ ys) = if eqb x y then eq_l xs ys else false
+eq_l (x ∷ xs) (y ∷ ys) = if x == y then eq_l xs ys else false
 
 -- the first of the values whose text is t
 abbrev pub first_with : {A : Type 0} → (A → List ℕ) → List A → List ℕ → Option A
@@ -19,7 +19,7 @@ first_with text (v ∷ vs) t = if eq_l (text v) t then some v else first_with te
 abbrev pub agree : List ℕ → List ℕ → ℕ
 agree [] t = 0
 agree (b ∷ w) [] = 0
-agree (b ∷ w) (x ∷ t) = if eqb x b then suc (agree w t) else 0
+agree (b ∷ w) (x ∷ t) = if x == b then suc (agree w t) else 0
 
 abbrev pub space : ℕ
 space = 32
@@ -31,7 +31,7 @@ digit_of c = (c + 2) % 10
 -- the decimal digits of n, with no leading zero, before r: at most one more than f of them
 unfoldable pub dec_to : ℕ → ℕ → List ℕ → List ℕ
 dec_to zero n r = (48 + n % 10) ∷ r
-dec_to (suc f) n r = if ltb n 10 then (48 + n % 10) ∷ r else dec_to f (n / 10) ((48 + n % 10) ∷ r)
+dec_to (suc f) n r = if nat_lt n 10 then (48 + n % 10) ∷ r else dec_to f (n / 10) ((48 + n % 10) ∷ r)
 
 -- t right-aligned in w characters
 abbrev pub pad : ℕ → List ℕ → List ℕ
@@ -39,4 +39,4 @@ pad w t = replicate (w - length t) space ++ t
 
 -- w in the place of as many bytes of t, from offset n on; t as it is, where they are not there
 abbrev pub laid_at : List ℕ → ℕ → List ℕ → List ℕ
-laid_at t n w = if leb (n + length w) (length t) then take n t ++ (w ++ drop (n + length w) t) else t
+laid_at t n w = if nat_le (n + length w) (length t) then take n t ++ (w ++ drop (n + length w) t) else t
