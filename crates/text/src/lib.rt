@@ -14,6 +14,7 @@ pub fn same(a: &[u8], b: &[u8]) -> bool
 }
 
 // How many bytes of word stand at the front of part, up to the first that does not.
+#[tactic(auto, using(crate::proofs::Texts::agree_past))]
 pub fn agree(word: &[u8], part: &[u8]) -> usize
     ensures { result ≡ agree word.now part.now }
 {

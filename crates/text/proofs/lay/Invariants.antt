@@ -9,4 +9,4 @@ invariant-loop-i l =
     (l.i ≤ length l.word) × (l.n ≡ length l.word) × (l.at + length l.word ≤ length l.fn.out) × (length l.out ≡ length l.fn.out) × (l.out ≡ paste l.fn.out l.at l.word l.i)
 
 abbrev pub decreases-loop-i : goal.decreases-loop-i
-decreases-loop-i l = l.n - l.i
+decreases-loop-i l = length l.word - l.i
