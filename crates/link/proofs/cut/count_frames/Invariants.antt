@@ -7,7 +7,7 @@ use Rattle.link.proofs.cut.count_frames.Given as goal
 
 abbrev pub invariant-loop-s : goal.invariant-loop-s
 invariant-loop-s l =
-    (l.start ≤ length l.capture) × (l.n ≤ l.start) × (l.n + length (frames_from fresh 0 (drop l.start l.capture)) ≡ length (frames_of l.capture))
+    (l.start ≤ length l.capture) × (l.n + length (frames_from fresh 0 (drop l.start l.capture)) ≡ length (frames_of l.capture)) × (l.n ≤ l.start)
 
 abbrev pub decreases-loop-s : goal.decreases-loop-s
 decreases-loop-s l = length l.capture - l.start
