@@ -2,7 +2,7 @@
 -- Assumes nothing.
 use Rattle.std.proofs.Common.{◌≡◌, ℕ, zero, suc, ◌+◌, ◌-◌, ◌%◌, ◌<◌, ◌≤◌, Bool, true, false, not, eqb, ltb, ◌⊎◌, List, [], ◌∷◌, ◌++◌, length, get_or, take, drop, sym, refl, ap, ◌∙◌, inl, inr, zero-add, arith, drop_of_length-le, length-take-le, take_all, get_or-take, take-suc, drop-drop, ltb-false, le-ltb, eqb-true, if◌then◌else◌}
 use lib.Bits.{bit_xor, bit_or, xor_add_and, or_shifted_r}
-use Rattle.text.specs.Choice.{either}
+use Rattle.std.specs.Prelude.{◌||◌}
 use Rattle.link.specs.Settings.{settings_offered, procedure_offered, procedure_a, procedure_b}
 use Rattle.link.specs.Characters.{STX, ETX, xor_of, sum_of, hex_of, pair_of, shaped}
 use Rattle.link.specs.Control.{END, SPM, MOR, REP, control_code, control_frame, control_outcome}
@@ -90,11 +90,11 @@ which code e = one (either_true (eqb code END) _ e)
     three (inl p) = inl (eqb-true code MOR p)
     three (inr p) = inr (eqb-true code REP p)
 
-    two : (eqb code SPM ≡ true) ⊎ (either (eqb code MOR) (eqb code REP) ≡ true) → (code ≡ SPM) ⊎ ((code ≡ MOR) ⊎ (code ≡ REP))
+    two : (eqb code SPM ≡ true) ⊎ ((eqb code MOR || eqb code REP) ≡ true) → (code ≡ SPM) ⊎ ((code ≡ MOR) ⊎ (code ≡ REP))
     two (inl p) = inl (eqb-true code SPM p)
     two (inr p) = inr (three (either_true (eqb code MOR) (eqb code REP) p))
 
-    one : (eqb code END ≡ true) ⊎ (either (eqb code SPM) (either (eqb code MOR) (eqb code REP)) ≡ true)
+    one : (eqb code END ≡ true) ⊎ ((eqb code SPM || (eqb code MOR || eqb code REP)) ≡ true)
         → (code ≡ END) ⊎ ((code ≡ SPM) ⊎ ((code ≡ MOR) ⊎ (code ≡ REP)))
     one (inl p) = inl (eqb-true code END p)
     one (inr p) = inr (two (either_true (eqb code SPM) _ p))

@@ -2,7 +2,7 @@
 -- Assumes nothing.
 use Rattle.std.proofs.Common.{◌≡◌, ℕ, ◌-◌, ◌≤◌, Bool, true, false, not, eqb, ltb, ◌⊎◌, List, length, get_or, refl, inl, inr, arith, ltb-false, le-ltb, eq-eqb, eqb-true, if◌then◌else◌}
 use borrow.Author.Tests.{not-false}
-use Rattle.text.specs.Choice.{both, either}
+use Rattle.std.specs.Prelude.{◌&&◌, ◌||◌}
 use Rattle.link.specs.Characters.{STX, ETX, CR, shaped}
 
 -- a test that must be passed: where the whole is true, it was false and the rest is true
@@ -10,11 +10,11 @@ pub passed : (t r : Bool) → (if t then false else r) ≡ true → (t ≡ false
 passed true r e = absurd (let z : ◌≡◌ {A = ℕ} 0 1 = cc in omega arith)
 passed false r e = (refl, e)
 
-pub both_true : (a b : Bool) → both a b ≡ true → (a ≡ true) × (b ≡ true)
+pub both_true : (a b : Bool) → (a && b) ≡ true → (a ≡ true) × (b ≡ true)
 both_true true b e = (refl, e)
 both_true false b e = (e, absurd (let z : ◌≡◌ {A = ℕ} 0 1 = cc in omega arith))
 
-pub either_true : (a b : Bool) → either a b ≡ true → (a ≡ true) ⊎ (b ≡ true)
+pub either_true : (a b : Bool) → (a || b) ≡ true → (a ≡ true) ⊎ (b ≡ true)
 either_true true b e = inl refl
 either_true false b e = inr e
 

@@ -1,7 +1,6 @@
 -- Control frames. An outcome is the answer and every byte of the lent output, as the call leaves it.
 -- Assumes nothing.
-use Rattle.std.specs.Prelude.{ℕ, Bool, not, List, [], ◌∷◌, ◌++◌, length, drop, ◌==◌, nat_lt, if◌then◌else◌}
-use Rattle.text.specs.Choice.{either}
+use Rattle.std.specs.Prelude.{ℕ, Bool, not, ◌||◌, List, [], ◌∷◌, ◌++◌, length, drop, ◌==◌, nat_lt, if◌then◌else◌}
 use Rattle.link.specs.Refusals.{refused, accepted, not_offered, unknown, no_room}
 use Rattle.link.specs.Settings.{procedure_offered}
 use Rattle.link.specs.Characters.{STX, ETX, CR, pair_of}
@@ -24,7 +23,7 @@ abbrev pub REP : ℕ
 REP = 0x3F
 
 abbrev pub control_code : ℕ → Bool
-control_code c = either (c == END) (either (c == SPM) (either (c == MOR) (c == REP)))
+control_code c = c == END || (c == SPM || (c == MOR || c == REP))
 
 -- L of a control frame
 abbrev pub control_length : ℕ

@@ -1,4 +1,3 @@
 -- What every other crate's definitions are written in.
-pub mod Choice
 pub mod Text
 pub mod Inverse

@@ -1,7 +1,6 @@
 -- Texts are lists of bytes: equality as a test, digits, right alignment, a run of bytes laid over another.
 -- Assumes nothing.
-use Rattle.std.specs.Prelude.{ℕ, zero, suc, ◌+◌, ◌-◌, ◌/◌, ◌%◌, Bool, true, false, List, [], ◌∷◌, ◌++◌, length, take, drop, replicate, ◌==◌, nat_lt, nat_le, if◌then◌else◌}
-use Rattle.std.proofs.Math.Option.{Option, none, some}
+use Rattle.std.specs.Prelude.{ℕ, zero, suc, ◌+◌, ◌-◌, ◌/◌, ◌%◌, Bool, true, false, List, [], ◌∷◌, ◌++◌, length, take, drop, replicate, ◌==◌, nat_lt, nat_le, Option, Some, None, if◌then◌else◌}
 
 -- whether two lists are the same, element by element
 abbrev pub eq_l : List ℕ → List ℕ → Bool
@@ -12,8 +11,8 @@ eq_l (x ∷ xs) (y ∷ ys) = if x == y then eq_l xs ys else false
 
 -- the first of the values whose text is t
 abbrev pub first_with : {A : Type 0} → (A → List ℕ) → List A → List ℕ → Option A
-first_with text [] t = none
-first_with text (v ∷ vs) t = if eq_l (text v) t then some v else first_with text vs t
+first_with text [] t = None
+first_with text (v ∷ vs) t = if eq_l (text v) t then Some v else first_with text vs t
 
 -- how many bytes of w stand at the front of t, up to the first that does not
 abbrev pub agree : List ℕ → List ℕ → ℕ

@@ -7,28 +7,18 @@ ghost use Rattle.std.specs.Prelude.{◌≡◌};
 ghost use Rattle.text.specs.Text.{eq_l, agree, digit_of, laid_at};
 
 // Whether a and b hold the same bytes.
+#[tactic(auto, using(crate::proofs::Texts::eq_l_pointwise))]
 pub fn same(a: &[u8], b: &[u8]) -> bool
     ensures { result ≡ eq_l a.now b.now }
 {
-    check::same(a, b)
+    a == b
 }
 
 // How many bytes of word stand at the front of part, up to the first that does not.
-#[tactic(auto, using(crate::proofs::Texts::agree_past))]
 pub fn agree(word: &[u8], part: &[u8]) -> usize
     ensures { result ≡ agree word.now part.now }
 {
-    let mut i = 0;
-    while i < word.len() {
-        if part.len() <= i {
-            return i;
-        }
-        if part[i] != word[i] {
-            return i;
-        }
-        i += 1;
-    }
-    i
+    word.iter().zip(part).take_while(|(w, p)| p == w).count()
 }
 
 // The digit that c is, if it is one.
@@ -42,16 +32,7 @@ pub fn digit_of(c: u8) -> u16
 pub fn lay(out: &mut [u8], at: usize, word: &[u8])
     ensures { out.new ≡ laid_at out.old at word.now }
 {
-    let n = word.len();
-    if out.len() < n {
-        return;
-    }
-    if out.len() - n < at {
-        return;
-    }
-    let mut i = 0;
-    while i < n {
-        out[at + i] = word[i];
-        i += 1;
+    if word.len() <= out.len() && at <= out.len() - word.len() {
+        out[at..at + word.len()].copy_from_slice(word);
     }
 }
