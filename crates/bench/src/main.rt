@@ -2,47 +2,37 @@
 #![tactic(auto)]
 
 use link::characters::{CR, STX};
-use link::control::control_frame;
+use link::control::{CONTROL_LENGTH, control_frame};
 use link::cut::{count_frames, find};
 use std::io;
 
-fn hex(digit: u8) -> u8 {
-    let h = digit % 16;
-    if h < 10 { h + 48 } else { h + 55 }
-}
-
-// One byte in hexadecimal, with a space before it.
-fn show_byte(rt: &impl Print, byte: u8) -> io::Result<()> {
-    let high = char::from(hex(byte / 16));
-    let low = char::from(hex(byte));
-    print!(rt; " {high}{low}")
-}
-
-fn show(rt: &impl Print, frame: &[u8]) -> io::Result<()> {
-    for i in 0..frame.len() {
-        show_byte(rt, frame[i])?;
+// Bytes in hexadecimal, with a space before each.
+fn show(rt: &impl Print, bytes: &[u8]) -> io::Result<()> {
+    for byte in bytes {
+        print!(rt; " {byte:02X}")?;
     }
     println!(rt; "")
 }
 
 // A control frame as it is written, or the number of its refusal.
 fn control(rt: &impl Print, procedure: u8, code: u8) -> io::Result<()> {
-    let mut out = [0u8; 6];
-    let refusal = control_frame(procedure, code, &mut out);
+    let mut out = [0u8; CONTROL_LENGTH];
     let letter = char::from(procedure);
     let name = char::from(code);
     print!(rt; "{letter} {name}")?;
-    if refusal.number == 0 {
-        return show(rt, &out);
+    match control_frame(procedure, code, &mut out) {
+        Ok(()) => show(rt, &out),
+        Err(refusal) => {
+            let number = u8::from(refusal.why);
+            println!(rt; " refused {number}")
+        }
     }
-    let number = refusal.number;
-    println!(rt; " refused {number}")
 }
 
 // How many frames the first bytes of a run give.
 fn count(rt: &impl Print, run: &[u8], end: usize) -> io::Result<()> {
-    if end <= run.len() {
-        let frames = count_frames(&run[..end]);
+    if let Some(run) = run.get(..end) {
+        let frames = count_frames(run);
         println!(rt; "{end} bytes: frames {frames}")?;
     }
     Ok(())
@@ -60,16 +50,14 @@ fn long(rt: &impl Print) -> io::Result<()> {
 }
 
 fn main(rt: HostRuntime) -> io::Result<()> {
-    control(&rt, b'a', b'>')?;
-    control(&rt, b'b', b'>')?;
-    control(&rt, b'a', b'?')?;
-    control(&rt, b'a', b':')?;
-    control(&rt, b'b', b'<')?;
-    control(&rt, b'a', b';')?;
-    control(&rt, b'c', b'>')?;
+    for frame in [*b"a>", *b"b>", *b"a?", *b"a:", *b"b<", *b"a;", *b"c>"] {
+        let [procedure, code] = frame;
+        control(&rt, procedure, code)?;
+    }
     long(&rt)?;
     let noisy = *b"..\x02<\x02>\x033?\r..\x02:\x033;\r";
-    show(&rt, find(&noisy, 0))?;
-    show(&rt, find(&noisy, 6))?;
-    show(&rt, find(&noisy, 16))
+    for start in [0, 6, 16] {
+        show(&rt, find(&noisy, start).unwrap_or(&[]))?;
+    }
+    Ok(())
 }

@@ -1,12 +1,13 @@
 -- What is written is a frame that a receiver hands over: STX first, CR last, and neither in between.
 -- Assumes nothing.
-use Rattle.std.proofs.Common.{◌≡◌, ℕ, zero, suc, ◌+◌, ◌-◌, ◌/◌, ◌%◌, ◌<◌, ◌≤◌, Bool, true, false, eqb, ltb, List, [], ◌∷◌, length, get_or, take, drop, refl, ◌∙◌, arith, length-append, get_or-append-add, below_more, if◌then◌else◌}
+use Rattle.std.proofs.Common.{◌≡◌, ℕ, zero, suc, ◌+◌, ◌-◌, ◌/◌, ◌%◌, ◌<◌, ◌≤◌, Bool, true, false, ltb, List, [], ◌∷◌, length, get_or, take, drop, refl, ◌∙◌, arith, length-append, get_or-append-add, below_more, if◌then◌else◌}
 use lib.Bits.{bit_or, or_add_and, and_le_l}
 use lib.ListN.{get_or-append}
 use lib.Seq.{get_or-append_seam}
-use Rattle.link.specs.Characters.{hex_of, pair_a, pair_b, pair_of, xor_of, sum_of}
-use Rattle.link.specs.Settings.{procedure_a}
-use Rattle.link.specs.declared.characters.Pair.{Pair}
+use Rattle.link.specs.Characters.{hex_of, pair_of, xor_of}
+use Rattle.std.specs.List.{sum}
+use Rattle.link.specs.declared.settings.Procedure.{Procedure}
+use Rattle.link.specs.declared.settings.Procedure.TheVariants.{A, B}
 use Rattle.link.specs.Characters.{STX, ETX, CR}
 use Rattle.link.specs.Control.{closed}
 use Rattle.link.specs.Framed.{Plain, Framed}
@@ -22,17 +23,14 @@ hex_above : (h : ℕ) → 48 ≤ hex_of h
 hex_above h = chosen (ltb h 10) h
 
 -- both test characters are 30 hex or above
-pub pair_above : (p : ℕ) (front : List ℕ) → (48 ≤ (pair_of p front).first) × (48 ≤ (pair_of p front).second)
-pair_above p front = go (eqb p procedure_a)
-  where
-    go : (t : Bool) → let m : Pair = (if t then pair_a front else pair_b (take (length front - 2) (drop 1 front))) in (48 ≤ m.first) × (48 ≤ m.second)
-    go true = (or_above (xor_of 0 front / 16) 48, or_above (xor_of 0 front % 16) 48)
-    go false = let x = sum_of (take (length front - 2) (drop 1 front)) % 256 in (hex_above (x / 16), hex_above (x % 16))
+pub pair_above : (p : Procedure) (front : List ℕ) → (48 ≤ (pair_of p front).first) × (48 ≤ (pair_of p front).second)
+pair_above A front = (or_above (xor_of front / 16) 48, or_above (xor_of front % 16) 48)
+pair_above B front = let x = sum (take (length front - 2) (drop 1 front)) % 256 in (hex_above (x / 16), hex_above (x % 16))
 
 plain : (b : ℕ) → 48 ≤ b → Plain b
 plain b h = (omega arith, omega arith)
 
-pub closed_framed : (p : ℕ) (front : List ℕ) → 1 ≤ length front → length front ≤ 252 → get_or front 0 0 ≡ STX
+pub closed_framed : (p : Procedure) (front : List ℕ) → 1 ≤ length front → length front ≤ 252 → get_or front 0 0 ≡ STX
     → ((i : ℕ) → 0 < i → i < length front → Plain (get_or front i 0)) → Framed (closed p front)
 closed_framed p front l h s q =
     let n = length front in
@@ -60,5 +58,5 @@ inner3 code q (suc (suc zero)) o k = (omega arith, omega arith)
 inner3 code q (suc (suc (suc i))) o k = absurd (omega arith)
 
 -- a control frame, of a code that is neither STX nor CR
-pub control_framed : (p : ℕ) (code : ℕ) → Plain code → Framed (closed p (STX ∷ code ∷ ETX ∷ []))
+pub control_framed : (p : Procedure) (code : ℕ) → Plain code → Framed (closed p (STX ∷ code ∷ ETX ∷ []))
 control_framed p code q = closed_framed p (STX ∷ code ∷ ETX ∷ []) (omega arith) (omega arith) refl (inner3 code q)

@@ -1,19 +1,24 @@
 -- A receiver that starts fresh, or sound, hands over only frames that begin with STX, end with CR and hold neither in between, and stays sound.
 -- Assumes nothing.
-use Rattle.std.proofs.Common.{◌≡◌, ℕ, ◌+◌, ◌-◌, ◌<◌, List, [], ◌∷◌, length, get_or, take, drop, set, refl, ◌∙◌, arith, length-set, length-take-le, get_or-set_other, get_or-take, get_or-set_same, below_more}
-use Rattle.link.specs.Cut.{act_of, done, receive_of, onward, handed_from, first_from, fresh, Handed}
+use Rattle.std.proofs.Common.{◌≡◌, ℕ, ◌+◌, ◌-◌, ◌<◌, List, [], ◌∷◌, length, get_or, take, drop, set, sym, refl, ◌∙◌, subst, arith, length-set, length-take-le, get_or-set_other, get_or-take, get_or-set_same, below_more}
+use Rattle.std.specs.Prelude.{Some, None, Ok, Err}
+use Rattle.link.specs.Cut.{Answer, act_of, holding, done, receive_of, onward, handed_from, first_from, fresh, Handed}
 use Rattle.link.specs.Framed.{Plain, Framed, Sound, After, FramedIf}
+use Rattle.link.specs.declared.cut.Receiver.{Receiver}
 use Rattle.link.specs.declared.cut.Act.{Act}
-use Rattle.link.specs.declared.cut.Act.TheVariants.{Refuse, Begin, Skip, Drop, Close, Keep}
-use Rattle.link.specs.declared.cut.Received.{Received}
-use Rattle.link.specs.declared.cut.Received.TheVariants.{Nothing, Frame, Dropped, Refused}
-use Rattle.link.proofs.Judged.{is_begin, is_close, is_keep, is_refuse}
-use Rattle.link.proofs.Held.{fresh_long}
+use Rattle.link.specs.declared.cut.Act.TheVariants.{Begin, Skip, Drop, Close, Keep}
+use Rattle.link.specs.declared.cut.Received.TheVariants.{Frame, Dropped}
+use Rattle.link.proofs.Laws.{taken}
+use Rattle.link.proofs.Judged.{judged}
+use Rattle.link.proofs.Held.{fresh_long, fresh_none}
 
-pub sound_none : (held : List ℕ) → length held ≡ 255 → Sound held 0
+pub sound_none : (held : List ℕ) → length held ≡ 255 → Sound (holding held 0)
 sound_none held l = record { long = l; few = omega arith; opens = λ p. absurd (omega arith); inner = λ i p q. absurd (omega arith) }
 
-module _ (held : List ℕ) (n b : ℕ) (H : Sound held n) where
+pub sound_fresh : Sound fresh
+sound_fresh = subst Sound (sym fresh_none) (sound_none (fresh.held) fresh_long)
+
+module _ (held : List ℕ) (n b : ℕ) (H : Sound (holding held n)) where
   long_set : (i : ℕ) → length (set held i b) ≡ 255
   long_set i = length-set held i b ∙ H.long
 
@@ -24,18 +29,18 @@ module _ (held : List ℕ) (n b : ℕ) (H : Sound held n) where
   here : n < 255 → get_or (set held n b) n 0 ≡ b
   here h = get_or-set_same held n b 0 (omega (arith, H.long))
 
-  begins : act_of n b ≡ Begin → Sound (set held 0 b) 1
+  begins : act_of n b ≡ Begin → Sound (holding (set held 0 b) 1)
   begins e =
       record {
         long = long_set 0;
         few = omega arith;
-        opens = λ p. get_or-set_same held 0 b 0 (omega (arith, H.long)) ∙ (is_begin n b e).1;
+        opens = λ p. get_or-set_same held 0 b 0 (omega (arith, H.long)) ∙ judged n b H.few Begin e;
         inner = λ i p q. absurd (omega arith);
       }
 
-  keeps : act_of n b ≡ Keep → Sound (set held n b) (n + 1)
+  keeps : act_of n b ≡ Keep → Sound (holding (set held n b) (n + 1))
   keeps e =
-      let k = is_keep n b e in
+      let k = judged n b H.few Keep e in
       record {
         long = long_set n;
         few = omega arith;
@@ -46,7 +51,7 @@ module _ (held : List ℕ) (n b : ℕ) (H : Sound held n) where
 
   closes : act_of n b ≡ Close → Framed (take (n + 1) (set held n b))
   closes e =
-      let k = is_close n b e in
+      let k = judged n b H.few Close e in
       let f = take (n + 1) (set held n b) in
       let l : length f ≡ n + 1 = length-take-le (n + 1) (set held n b) (omega (arith, long_set n)) in
       let m : n + 1 - 1 ≡ n = omega arith in
@@ -58,29 +63,30 @@ module _ (held : List ℕ) (n b : ℕ) (H : Sound held n) where
         inner = λ i p q. rw (get_or-take (n + 1) (set held n b) i 0 (omega arith), below i (omega arith)) (H.inner i p (omega arith));
       }
 
-  by_act : (a : Act) → act_of n b ≡ a → After (done a held n b)
-  by_act Refuse e = let k = is_refuse n b e in omega (arith, H.few)
+  by_act : (a : Act) → act_of n b ≡ a → After (done a (holding held n) b)
   by_act Begin e = begins e
-  by_act Skip e = sound_none held H.long
-  by_act Drop e = sound_none held H.long
-  by_act Close e = (closes e, sound_none (set held n b) (long_set n))
+  by_act Skip e = H
+  by_act Drop e = (refl, sound_none held H.long)
+  by_act Close e = (closes e, refl, sound_none (set held n b) (long_set n))
   by_act Keep e = keeps e
 
-  pub received : After (receive_of held n b)
-  received = by_act (act_of n b) refl
+-- one byte more
+pub received : (r : Receiver) (b : ℕ) → Sound r → After (receive_of r b)
+received r b H =
+    let a = act_of r.count b in
+    subst After (sym (taken r.held r.count b H.few a refl)) (by_act r.held r.count b H a refl)
 
-onward_framed : (o : Received × List ℕ) (at : ℕ) (go : List ℕ → ℕ → Handed) → After o → ((h : List ℕ) (m : ℕ) → Sound h m → FramedIf (go h m))
-    → FramedIf (onward o at go)
-onward_framed (Nothing n, h) at go a r = r h n a
-onward_framed (Frame n, h) at go a r = a.0
-onward_framed (Dropped, h) at go a r = r h 0 a
-onward_framed (Refused, h) at go a r = tt
+onward_framed : (o : Answer × Receiver) (at : ℕ) (go : Receiver → Handed) → After o → ((r : Receiver) → Sound r → FramedIf (go r)) → FramedIf (onward o at go)
+onward_framed (Ok None, r) at go a f = f r a
+onward_framed (Ok (Some (Frame n)), r) at go a f = a.0
+onward_framed (Ok (Some Dropped), r) at go a f = f r a.1
+onward_framed (Err e, r) at go a f = tt
 
-pub handed_framed : (held : List ℕ) (n at : ℕ) (bs : List ℕ) → Sound held n → FramedIf (handed_from held n at bs)
-handed_framed held n at [] H = tt
-handed_framed held n at (b ∷ bs) H =
-    onward_framed (receive_of held n b) (at + 1) (λ h m. handed_from h m (at + 1) bs) (received held n b H) (λ h m S. handed_framed h m (at + 1) bs S)
+pub handed_framed : (r : Receiver) (at : ℕ) (bs : List ℕ) → Sound r → FramedIf (handed_from r at bs)
+handed_framed r at [] H = tt
+handed_framed r at (b ∷ bs) H =
+    onward_framed (receive_of r b) (at + 1) (λ q. handed_from q (at + 1) bs) (received r b H) (λ q S. handed_framed q (at + 1) bs S)
 
 -- what the finder hands back is such a frame
 pub found_framed : (s : List ℕ) (start : ℕ) → FramedIf (first_from s start)
-found_framed s start = handed_framed fresh 0 start (drop start s) (sound_none fresh fresh_long)
+found_framed s start = handed_framed fresh start (drop start s) sound_fresh

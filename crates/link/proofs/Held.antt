@@ -1,12 +1,14 @@
 -- A receiver that was fed a capture from `start` up to `at`, has handed over nothing, and holds n bytes: those are the n bytes before `at`.
 -- Assumes nothing.
-use Rattle.std.proofs.Common.{◌≡◌, ℕ, zero, suc, ◌+◌, ◌-◌, ◌<◌, ◌≤◌, List, length, get_or, take, drop, set, sym, refl, ap, ◌∙◌, subst, add-one, arith, length-drop, length-set, drop_of_length-le, length-take-le, get_or-drop, take-suc, take-suc-set}
-use Rattle.link.specs.Cut.{act_of, done, onward, handed_from, first_from, fresh, span_of, bytes_of, none, after}
+use Rattle.std.proofs.Common.{◌≡◌, ℕ, zero, suc, ◌+◌, ◌-◌, ◌<◌, ◌≤◌, ◌⊎◌, inl, inr, List, length, get_or, take, drop, set, sym, refl, ap, ◌∙◌, add-one, arith, length-drop, length-set, drop_of_length-le, length-take-le, get_or-drop, take-suc, take-suc-set}
+use Rattle.std.specs.Prelude.{Option, Some, None}
+use Rattle.link.specs.Cut.{Answer, act_of, holding, done, onward, handed_from, first_from, fresh, span_of, none, after}
+use Rattle.link.specs.declared.cut.Receiver.{Receiver}
 use Rattle.link.specs.declared.cut.Span.{Span}
 use Rattle.link.specs.declared.cut.Act.{Act}
-use Rattle.link.specs.declared.cut.Act.TheVariants.{Refuse, Begin, Skip, Drop, Close, Keep}
-use Rattle.link.proofs.Laws.{rest}
-use Rattle.link.proofs.Judged.{is_close, is_keep, is_refuse}
+use Rattle.link.specs.declared.cut.Act.TheVariants.{Begin, Skip, Drop, Close, Keep}
+use Rattle.link.proofs.Laws.{rest, taken}
+use Rattle.link.proofs.Judged.{judged}
 
 pub record Held (s : List ℕ) (start n at : ℕ) : Type 0 where
   pub held : List ℕ
@@ -14,7 +16,7 @@ pub record Held (s : List ℕ) (start n at : ℕ) : Type 0 where
   pub few : n ≤ 255
   pub within : n ≤ at
   pub same : take n held ≡ take n (drop (at - n) s)
-  pub run : handed_from held n at (drop at s) ≡ first_from s start
+  pub run : handed_from (holding held n) at (drop at s) ≡ first_from s start
 
 -- one byte more, at n of what is held and at `at` of the capture
 grow : (held s : List ℕ) (n at : ℕ) → n ≤ at → at < length s → n < length held → take n held ≡ take n (drop (at - n) s)
@@ -24,21 +26,37 @@ grow held s n at h l f e =
     let p : at - n + n ≡ at = omega arith in
     rw (add-one, take-suc-set held n (get_or s at 0) f, take-suc (drop (at - n) s) n 0 k, get_or-drop (at - n) s n 0, p, e)
 
-pub fresh_long : length fresh ≡ 255
+pub fresh_long : length (fresh.held) ≡ 255
 unfolding fresh
 fresh_long = refl
 
+pub fresh_none : fresh ≡ holding (fresh.held) 0
+unfolding fresh
+fresh_none = refl
+
 module _ (s : List ℕ) (start : ℕ) where
   pub held_none : Held s start 0 start
-  held_none = record { held = fresh; long = fresh_long; few = omega arith; within = omega arith; same = refl; run = refl }
+  held_none =
+      record {
+        held = fresh.held;
+        long = fresh_long;
+        few = omega arith;
+        within = omega arith;
+        same = refl;
+        run = ap (λ (r : Receiver). handed_from r start (drop start s)) (sym fresh_none);
+      }
 
   module _ (n at : ℕ) (l : at < length s) (H : Held s start n at) where
     fed : (a : Act) → act_of n (get_or s at 0) ≡ a
-        → onward (done a H.held n (get_or s at 0)) (at + 1) (λ h m. handed_from h m (at + 1) (drop (at + 1) s)) ≡ first_from s start
+        → onward (done a (holding H.held n) (get_or s at 0)) (at + 1) (λ r. handed_from r (at + 1) (drop (at + 1) s)) ≡ first_from s start
     fed a e =
-        ap (λ (x : Act). onward (done x H.held n (get_or s at 0)) (at + 1) (λ h m. handed_from h m (at + 1) (drop (at + 1) s))) (sym e)
-        ∙ sym (ap (handed_from H.held n at) (rest s at l))
+        ap (λ (x : Answer × Receiver). onward x (at + 1) (λ r. handed_from r (at + 1) (drop (at + 1) s))) (sym (taken H.held n (get_or s at 0) H.few a e))
+        ∙ sym (ap (handed_from (holding H.held n) at) (rest s at l))
         ∙ H.run
+
+    -- nothing is held from here on
+    clear : (k : ℕ) → handed_from (holding H.held k) (at + 1) (drop (at + 1) s) ≡ first_from s start → k ≡ 0 → Held s start 0 (at + 1)
+    clear k r z = record { held = H.held; long = H.long; few = omega arith; within = omega arith; same = refl; run = rw z at r }
 
     pub held_begin : act_of n (get_or s at 0) ≡ Begin → Held s start 1 (at + 1)
     held_begin e =
@@ -56,7 +74,7 @@ module _ (s : List ℕ) (start : ℕ) where
     pub held_keep : act_of n (get_or s at 0) ≡ Keep → Held s start (n + 1) (at + 1)
     held_keep e =
         let b = get_or s at 0 in
-        let k = is_keep n b e in
+        let k = judged n b H.few Keep e in
         let p : at + 1 - (n + 1) ≡ at - n = omega arith in
         record {
           held = set H.held n b;
@@ -67,18 +85,13 @@ module _ (s : List ℕ) (start : ℕ) where
           run = fed Keep e;
         }
 
-    pub held_skip : act_of n (get_or s at 0) ≡ Skip → Held s start 0 (at + 1)
-    held_skip e = record { held = H.held; long = H.long; few = omega arith; within = omega arith; same = refl; run = fed Skip e }
-
-    pub held_drop : act_of n (get_or s at 0) ≡ Drop → Held s start 0 (at + 1)
-    held_drop e = record { held = H.held; long = H.long; few = omega arith; within = omega arith; same = refl; run = fed Drop e }
-
-    pub held_refuse : act_of n (get_or s at 0) ≡ Refuse → Held s start 0 (at + 1)
-    held_refuse e = let k = is_refuse n (get_or s at 0) e in absurd (omega (arith, H.few))
+    pub held_past : (act_of n (get_or s at 0) ≡ Skip) ⊎ (act_of n (get_or s at 0) ≡ Drop) → Held s start 0 (at + 1)
+    held_past (inl e) = clear n (fed Skip e) (judged n (get_or s at 0) H.few Skip e)
+    held_past (inr e) = clear 0 (fed Drop e) refl
 
     pub held_close : act_of n (get_or s at 0) ≡ Close → first_from s start ≡ after (at + 1) (take (n + 1) (drop (at - n) s))
     held_close e =
-        let k = is_close n (get_or s at 0) e in
+        let k = judged n (get_or s at 0) H.few Close e in
         sym (fed Close e) ∙ ap (after (at + 1)) (grow H.held s n at H.within l (omega (arith, H.long)) H.same)
 
   pub held_end : (n at : ℕ) → length s ≤ at → Held s start n at → first_from s start ≡ none
@@ -86,12 +99,12 @@ module _ (s : List ℕ) (start : ℕ) where
 
   -- what the finder answers
   pub span_close : (n at : ℕ) → at < length s → Held s start n at → act_of n (get_or s at 0) ≡ Close
-      → ◌≡◌ {A = Span} (record { at = at + 1 - (n + 1); len = n + 1 }) (span_of (first_from s start))
+      → ◌≡◌ {A = Option Span} (Some (record { at = at + 1 - (n + 1); len = n + 1 })) (span_of (first_from s start))
   span_close n at l H e =
       let k : n + 1 ≤ length (drop (at - n) s) = simp length-drop (omega (arith, H.within)) in
       rw (held_close n at l H e, length-take-le (n + 1) (drop (at - n) s) k)
 
-  pub span_end : (n at : ℕ) → length s ≤ at → Held s start n at → ◌≡◌ {A = Span} (record { at = 0; len = 0 }) (span_of (first_from s start))
+  pub span_end : (n at : ℕ) → length s ≤ at → Held s start n at → ◌≡◌ {A = Option Span} None (span_of (first_from s start))
   span_end n at l H = rw (held_end n at l H)
 
 -- how a run ends: nothing is handed over, or a byte closes what is held
@@ -102,10 +115,9 @@ pub data Ended (s : List ℕ) (start : ℕ) : Type 0 where
 module _ (s : List ℕ) (start : ℕ) where
   step : (n at : ℕ) → at < length s → Held s start n at → ((m : ℕ) → Held s start m (at + 1) → Ended s start)
       → (a : Act) → act_of n (get_or s at 0) ≡ a → Ended s start
-  step n at l H go Refuse e = go 0 (held_refuse s start n at l H e)
   step n at l H go Begin e = go 1 (held_begin s start n at l H e)
-  step n at l H go Skip e = go 0 (held_skip s start n at l H e)
-  step n at l H go Drop e = go 0 (held_drop s start n at l H e)
+  step n at l H go Skip e = go 0 (held_past s start n at l H (inl e))
+  step n at l H go Drop e = go 0 (held_past s start n at l H (inr e))
   step n at l H go Close e = closing n at l H e
   step n at l H go Keep e = go (n + 1) (held_keep s start n at l H e)
 
@@ -116,22 +128,14 @@ module _ (s : List ℕ) (start : ℕ) where
   pub ended : Ended s start
   ended = walk (length s - start) 0 start refl (held_none s start)
 
--- of the finder's answer r: the part lies within the capture, and is the frame handed over
-pub record Part (s : List ℕ) (start : ℕ) (r : Span) : Type 0 where
-  pub inside : r.at + r.len ≤ length s
-  pub bytes : take r.len (drop r.at s) ≡ bytes_of (first_from s start)
+-- the next step of a finder, by what it judged the byte to do
+module _ (s : List ℕ) (start n at : ℕ) (l : at < length s) (H : Held s start n at) (a : Act) (was : a ≡ act_of n (get_or s at 0)) where
+  pub next_begin : a ≡ Begin → Held s start 1 (at + 1)
+  next_begin e = held_begin s start n at l H (sym was ∙ e)
 
-module _ (s : List ℕ) (start : ℕ) where
-  part_of : Ended s start → Part s start (span_of (first_from s start))
-  part_of (nothing e) = record { inside = rw e (omega arith); bytes = rw e }
-  part_of (closing n at l H e) =
-      let f = take (n + 1) (drop (at - n) s) in
-      let k : length f ≡ n + 1 = length-take-le (n + 1) (drop (at - n) s) (simp length-drop (omega (arith, H.within))) in
-      let p : at + 1 - (n + 1) ≡ at - n = omega arith in
-      record {
-        inside = rw (held_close s start n at l H e, k) (omega (arith, H.within));
-        bytes = rw (held_close s start n at l H e, k, p);
-      }
+  pub next_keep : a ≡ Keep → Held s start (n + 1) (at + 1)
+  next_keep e = held_keep s start n at l H (sym was ∙ e)
 
-  pub part : (r : Span) → r ≡ span_of (first_from s start) → Part s start r
-  part r e = subst (Part s start) (sym e) (part_of (ended s start))
+  pub next_past : (a ≡ Skip) ⊎ (a ≡ Drop) → Held s start 0 (at + 1)
+  next_past (inl e) = held_past s start n at l H (inl (sym was ∙ e))
+  next_past (inr e) = held_past s start n at l H (inr (sym was ∙ e))

@@ -1,11 +1,11 @@
 pub mod Laws
 -- Assumes nothing.
-pub mod Shapes
 pub mod Judged
 pub mod Held
 pub mod Framed
-pub mod Frames
 pub mod Delivers
+pub mod Frames
+pub mod Shapes
 pub mod Closed
 pub mod Whole
 pub mod Claimed

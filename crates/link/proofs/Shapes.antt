@@ -1,8 +1,8 @@
 -- What the shape of a frame says, and how it is shown.
 -- Assumes nothing.
-use Rattle.std.proofs.Common.{◌≡◌, ℕ, ◌-◌, ◌≤◌, Bool, true, false, not, eqb, ltb, ◌⊎◌, List, length, get_or, refl, inl, inr, arith, ltb-false, le-ltb, eq-eqb, eqb-true, if◌then◌else◌}
+use Rattle.std.proofs.Common.{◌≡◌, ℕ, ◌-◌, ◌≤◌, Bool, true, false, not, eqb, ltb, List, length, get_or, refl, arith, ltb-false, le-ltb, eq-eqb, eqb-true, if◌then◌else◌}
 use borrow.Author.Tests.{not-false}
-use Rattle.std.specs.Prelude.{◌&&◌, ◌||◌}
+use Rattle.std.specs.Prelude.{◌&&◌}
 use Rattle.link.specs.Characters.{STX, ETX, CR, shaped}
 
 -- a test that must be passed: where the whole is true, it was false and the rest is true
@@ -13,10 +13,6 @@ passed false r e = (refl, e)
 pub both_true : (a b : Bool) → (a && b) ≡ true → (a ≡ true) × (b ≡ true)
 both_true true b e = (refl, e)
 both_true false b e = (e, absurd (let z : ◌≡◌ {A = ℕ} 0 1 = cc in omega arith))
-
-pub either_true : (a b : Bool) → (a || b) ≡ true → (a ≡ true) ⊎ (b ≡ true)
-either_true true b e = inl refl
-either_true false b e = inr e
 
 pub record Shaped (f : List ℕ) : Type 0 where
   pub least : 6 ≤ length f

@@ -7,9 +7,10 @@ use Rattle.link.specs.Characters.{pair_of}
 use Rattle.link.specs.Characters.{STX, ETX, CR, shaped}
 use Rattle.link.specs.Control.{closed}
 use Rattle.link.specs.Outer.{marked}
+use Rattle.link.specs.declared.settings.Procedure.{Procedure}
 use Rattle.link.proofs.Shapes.{shaped_by}
 
-module _ (p : ℕ) (front : List ℕ) where
+module _ (p : Procedure) (front : List ℕ) where
   abbrev tail : List ℕ
   tail = (pair_of p front).first ∷ (pair_of p front).second ∷ CR ∷ []
 

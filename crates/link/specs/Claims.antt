@@ -1,17 +1,20 @@
 -- What is proved of the definitions together: each of these is the contract of a function `claim_..`.
 -- Assumes nothing.
-use Rattle.std.specs.Prelude.{◌≡◌, ℕ, zero, suc, ◌≤◌, true, List, [], ◌∷◌, ◌++◌, length, take, drop, ◌==◌, ◌≢◌, if◌then◌else◌}
-use Rattle.link.specs.Settings.{settings_offered, procedure_a, procedure_b}
+use Rattle.std.specs.Prelude.{◌≡◌, ℕ, zero, suc, ◌≤◌, true, List, [], ◌∷◌, ◌++◌, length, take, drop, Result, Ok, Err, Option, Some, None, ◌==◌, ◌≢◌, if◌then◌else◌}
+use Rattle.link.specs.Settings.{settings_offered}
 use Rattle.link.specs.Characters.{shaped}
 use Rattle.link.specs.Control.{END, SPM, MOR, control_code, control_length, control_outcome}
 use Rattle.link.specs.Outer.{marked, outer_of}
-use Rattle.link.specs.Cut.{holds, Handed, none, after, handed_from, first_from, Event, frame, loss, events_from, frames_of, fed_of}
+use Rattle.link.specs.Cut.{holds, Handed, none, after, handed_from, first_from, Event, event_of, events_from, frames_of, fed_of}
 use Rattle.link.specs.Framed.{Framed, AllFramed}
+use Rattle.link.specs.declared.settings.Refusal.{Refusal}
 use Rattle.link.specs.declared.settings.Settings.{Settings}
-use Rattle.link.specs.declared.outer.Outer.{Outer}
-use Rattle.link.specs.declared.outer.Outer.TheVariants.{End, Spm, More, Repeat}
-use Rattle.link.specs.declared.feed.Fed.{Fed}
-use Rattle.link.specs.declared.feed.Fed.TheVariants.{More as FedMore, Closed, Lost, Refused as FedRefused}
+use Rattle.link.specs.declared.settings.Procedure.TheVariants.{A, B}
+use Rattle.link.specs.declared.control.Control.{Control}
+use Rattle.link.specs.declared.control.Control.TheVariants.{End, Spm, More, Repeat}
+use Rattle.link.specs.declared.outer.Outer.TheVariants.{Control as is_control}
+use Rattle.link.specs.declared.cut.Fed.{Fed}
+use Rattle.link.specs.declared.cut.Receiver.{Receiver}
 
 -- run over any bytes from the fresh state, the receiver hands over only frames that begin with STX, end with CR, hold neither in
 -- between, and have 2 to 255 bytes
@@ -20,7 +23,7 @@ HandsOverFrames = (bytes : List ℕ) → AllFramed (frames_of bytes)
 
 -- a frame so formed that is fed to a receiver, whatever it holds, is handed over as it is, at its last byte
 abbrev pub Delivers : Type 0
-Delivers = (f more held : List ℕ) (n : ℕ) → Framed f → length held ≡ holds → n ≤ holds → handed_from held n 0 (f ++ more) ≡ after (length f) f
+Delivers = (f more : List ℕ) (r : Receiver) → Framed f → length r.held ≡ holds → r.count ≤ holds → handed_from r 0 (f ++ more) ≡ after (length f) f
 
 -- the frames that the finder meets, started again after each, at most k of them
 abbrev pub met_next : Handed → (ℕ → List (List ℕ)) → List (List ℕ)
@@ -36,18 +39,17 @@ abbrev pub FinderFollows : Type 0
 FinderFollows = (capture : List ℕ) → met (length capture) capture 0 ≡ frames_of capture
 
 -- what a run of bytes gives that is fed up to its first event, and then the bytes after it
-abbrev pub fed_events : Fed × List ℕ → List ℕ → List Event
-fed_events (FedMore n, held) bytes = []
-fed_events (Closed n used, held) bytes = frame (take n held) ∷ events_from held 0 (drop used bytes)
-fed_events (Lost used, held) bytes = loss ∷ events_from held 0 (drop used bytes)
-fed_events (FedRefused, held) bytes = []
+abbrev pub fed_events : Result (Option Fed) Refusal × Receiver → List ℕ → List Event
+fed_events (Ok None, r) bytes = []
+fed_events (Ok (Some x), r) bytes = event_of x.received r ∷ events_from r (drop x.used bytes)
+fed_events (Err e, r) bytes = []
 
 -- fed so, again and again, a receiver meets exactly its events
 abbrev pub FeedFollows : Type 0
-FeedFollows = (held bytes : List ℕ) (n : ℕ) → fed_events (fed_of held n 0 bytes) bytes ≡ events_from held n bytes
+FeedFollows = (r : Receiver) (bytes : List ℕ) → fed_events (fed_of r 0 bytes) bytes ≡ events_from r bytes
 
 -- the judgement due for a control frame of a code
-abbrev pub control_outer : ℕ → Outer
+abbrev pub control_outer : ℕ → Control
 control_outer code =
     if code == END then End
     else if code == SPM then Spm
@@ -58,8 +60,8 @@ control_outer code =
 abbrev pub ControlPasses : Type 0
 ControlPasses =
     (s : Settings) (code : ℕ) (out : List ℕ) → settings_offered s ≡ true → control_code code ≡ true → control_length ≤ length out
-    → outer_of s (take control_length (control_outcome s.procedure code out).1) ≡ control_outer code
+    → outer_of s (take control_length (control_outcome s.procedure code out).1) ≡ Ok (is_control (control_outer code))
 
 -- no test characters fit both procedures
 abbrev pub OneProcedure : Type 0
-OneProcedure = (f : List ℕ) → shaped f ≡ true → marked procedure_a f ≡ true → marked procedure_b f ≢ true
+OneProcedure = (f : List ℕ) → shaped f ≡ true → marked A f ≡ true → marked B f ≢ true

@@ -1,10 +1,14 @@
 -- Control frames. An outcome is the answer and every byte of the lent output, as the call leaves it.
 -- Assumes nothing.
-use Rattle.std.specs.Prelude.{ℕ, Bool, not, ◌||◌, List, [], ◌∷◌, ◌++◌, length, drop, ◌==◌, nat_lt, if◌then◌else◌}
-use Rattle.link.specs.Refusals.{refused, accepted, not_offered, unknown, no_room}
-use Rattle.link.specs.Settings.{procedure_offered}
+use Rattle.std.specs.Prelude.{ℕ, Bool, List, [], ◌∷◌, ◌++◌, length, drop, Result, Ok, Err, is_ok, ◌==◌, nat_lt, if◌then◌else◌}
+use Rattle.link.specs.Refusals.{refused, and_then}
+use Rattle.link.specs.Settings.{procedure_of}
 use Rattle.link.specs.Characters.{STX, ETX, CR, pair_of}
+use Rattle.link.specs.declared.settings.Why.TheVariants.{Unknown, NoRoom}
 use Rattle.link.specs.declared.settings.Refusal.{Refusal}
+use Rattle.link.specs.declared.settings.Procedure.{Procedure}
+use Rattle.link.specs.declared.control.Control.{Control}
+use Rattle.link.specs.declared.control.Control.TheVariants.{End, Spm, More, Repeat}
 
 -- the frame codes; MOR from the host and ANY from the reader are one byte
 abbrev pub END : ℕ
@@ -22,24 +26,47 @@ MOR = 0x3E
 abbrev pub REP : ℕ
 REP = 0x3F
 
+abbrev pub code_of : Control → ℕ
+code_of End = END
+code_of Spm = SPM
+code_of More = MOR
+code_of Repeat = REP
+
+-- what a code says in a control frame: refusal 4 at its place for any other
+abbrev pub control_of : ℕ → Result Control Refusal
+control_of c =
+    if c == END then Ok End
+    else if c == SPM then Ok Spm
+    else if c == MOR then Ok More
+    else if c == REP then Ok Repeat
+    else refused Unknown 2
+
 abbrev pub control_code : ℕ → Bool
-control_code c = c == END || (c == SPM || (c == MOR || c == REP))
+control_code c = is_ok (control_of c)
 
 -- L of a control frame
 abbrev pub control_length : ℕ
 control_length = 6
 
 -- a front, STX to ETX, with its test characters and CR
-abbrev pub closed : ℕ → List ℕ → List ℕ
+abbrev pub closed : Procedure → List ℕ → List ℕ
 closed p front = front ++ ((pair_of p front).first ∷ (pair_of p front).second ∷ CR ∷ [])
 
-abbrev pub control_frame : ℕ → ℕ → List ℕ
-control_frame p code = closed p (STX ∷ code ∷ ETX ∷ [])
+abbrev pub control_frame : Procedure → Control → List ℕ
+control_frame p c = closed p (STX ∷ code_of c ∷ ETX ∷ [])
 
--- refusals 1, 4 at the code's place, 8: nothing touched; else the frame, and the bytes past it as they were
-abbrev pub control_outcome : ℕ → ℕ → List ℕ → Refusal × List ℕ
-control_outcome p code out =
-    if not (procedure_offered p) then (refused not_offered 0, out)
-    else if not (control_code code) then (refused unknown 2, out)
-    else if nat_lt (length out) control_length then (refused no_room 0, out)
-    else (accepted, control_frame p code ++ drop control_length out)
+-- the frame for an output of so many bytes: refusals 1, 4 at the code's place, 8
+abbrev pub control_due : ℕ → ℕ → ℕ → Result (List ℕ) Refusal
+control_due p code room =
+    and_then (procedure_of p) (λ procedure.
+    and_then (control_of code) (λ control.
+    if nat_lt room control_length then refused NoRoom 0
+    else Ok (control_frame procedure control)))
+
+-- the frame before the bytes past it as they were; a refusal touches nothing
+abbrev pub written : Result (List ℕ) Refusal → List ℕ → Result (Unit {0}) Refusal × List ℕ
+written (Ok f) out = (Ok tt, f ++ drop (length f) out)
+written (Err e) out = (Err e, out)
+
+abbrev pub control_outcome : ℕ → ℕ → List ℕ → Result (Unit {0}) Refusal × List ℕ
+control_outcome p code out = written (control_due p code (length out)) out

@@ -1,10 +1,10 @@
 -- What a handed frame looks like, and what a receiver holds between two bytes.
 -- Assumes nothing.
-use Rattle.std.specs.Prelude.{◌≡◌, ℕ, ◌+◌, ◌-◌, ◌<◌, ◌≤◌, List, [], ◌∷◌, length, take, ◌≢◌, slice_index, slice_index_or}
+use Rattle.std.specs.Prelude.{◌≡◌, ℕ, ◌+◌, ◌-◌, ◌<◌, ◌≤◌, List, [], ◌∷◌, length, take, Some, None, Ok, Err, ◌≢◌, slice_index, slice_index_or}
 use Rattle.link.specs.Characters.{STX, CR}
-use Rattle.link.specs.Cut.{Handed, none, after, holds}
-use Rattle.link.specs.declared.cut.Received.{Received}
-use Rattle.link.specs.declared.cut.Received.TheVariants.{Nothing, Frame, Dropped, Refused}
+use Rattle.link.specs.Cut.{Answer, Handed, none, after, holds}
+use Rattle.link.specs.declared.cut.Received.TheVariants.{Frame, Dropped}
+use Rattle.link.specs.declared.cut.Receiver.{Receiver}
 
 -- neither STX nor CR
 abbrev pub Plain : ℕ → Type 0
@@ -18,19 +18,19 @@ pub record Framed (f : List ℕ) : Type 0 where
   pub closes : slice_index_or f (length f - 1) 0 ≡ CR
   pub inner : (i : ℕ) → 0 < i → i + 1 < length f → Plain (slice_index f i)
 
--- of the 255 bytes lent, the first n are held: an STX, and no further STX or CR
-pub record Sound (held : List ℕ) (n : ℕ) : Type 0 where
-  pub long : length held ≡ holds
-  pub few : n ≤ holds
-  pub opens : 0 < n → slice_index held 0 ≡ STX
-  pub inner : (i : ℕ) → 0 < i → i < n → Plain (slice_index held i)
+-- it has room for 255 bytes, and the first so many are held: an STX, and no further STX or CR
+pub record Sound (r : Receiver) : Type 0 where
+  pub long : length r.held ≡ holds
+  pub few : r.count ≤ holds
+  pub opens : 0 < r.count → slice_index r.held 0 ≡ STX
+  pub inner : (i : ℕ) → 0 < i → i < r.count → Plain (slice_index r.held i)
 
--- an answer and what is held after it
-abbrev pub After : Received × List ℕ → Type 0
-After (Nothing m, held) = Sound held m
-After (Frame m, held) = Framed (take m held) × Sound held 0
-After (Dropped, held) = Sound held 0
-After (Refused, held) = ⊥
+-- an answer and the receiver after it, which holds nothing after a frame or a loss
+abbrev pub After : Answer × Receiver → Type 0
+After (Ok None, r) = Sound r
+After (Ok (Some (Frame m)), r) = Framed (take m r.held) × (r.count ≡ 0) × Sound r
+After (Ok (Some Dropped), r) = (r.count ≡ 0) × Sound r
+After (Err e, r) = ⊥
 
 abbrev pub FramedIf : Handed → Type 0
 FramedIf none = Unit {0}

@@ -1,52 +1,59 @@
 -- The outer form of a frame: refusals 1 to 5, in this order, or what kind of frame it is.
 -- Assumes nothing.
-use Rattle.std.specs.Prelude.{ℕ, ◌-◌, Bool, false, not, List, length, take, ◌==◌, slice_index, if◌then◌else◌}
-use Rattle.link.specs.Refusals.{refused, not_offered, misshapen, untrue, unknown, mislength}
-use Rattle.link.specs.Settings.{settings_offered, short_id}
+use Rattle.std.specs.Prelude.{ℕ, ◌-◌, Bool, ◌&&◌, not, List, length, take, Result, Ok, ◌==◌, slice_index, if◌then◌else◌}
+use Rattle.link.specs.Refusals.{refused, and_then}
+use Rattle.link.specs.Settings.{offered_of}
 use Rattle.link.specs.Characters.{shaped, pair_of}
-use Rattle.link.specs.Control.{END, SPE, SPM, MOR, REP, control_length}
+use Rattle.link.specs.Control.{SPE, control_of, control_length}
+use Rattle.link.specs.declared.settings.Why.TheVariants.{Misshapen, Untrue, Unknown, Mislength}
+use Rattle.link.specs.declared.settings.Refusal.{Refusal}
 use Rattle.link.specs.declared.settings.Settings.{Settings}
+use Rattle.link.specs.declared.settings.Procedure.{Procedure}
+use Rattle.link.specs.declared.settings.IdLength.{IdLength}
+use Rattle.link.specs.declared.settings.IdLength.TheVariants.{Short, Long}
+use Rattle.link.specs.declared.outer.Kind.{Kind}
+use Rattle.link.specs.declared.outer.Kind.TheVariants.{E, D}
 use Rattle.link.specs.declared.outer.Outer.{Outer}
-use Rattle.link.specs.declared.outer.Outer.TheVariants.{End, Spm, More, Repeat, StripE, StripD, Refused}
+use Rattle.link.specs.declared.outer.Outer.TheVariants.{Control, Strip}
 
 -- whether both test characters are those due
-abbrev pub marked : ℕ → List ℕ → Bool
+abbrev pub marked : Procedure → List ℕ → Bool
 marked p f =
     let L = length f in
-    if not (slice_index f (L - 3) == (pair_of p (take (L - 3) f)).first) then false
-    else (slice_index f (L - 2) == (pair_of p (take (L - 3) f)).second)
+    slice_index f (L - 3) == (pair_of p (take (L - 3) f)).first && slice_index f (L - 2) == (pair_of p (take (L - 3) f)).second
+
+-- 'E' or 'D' in a result frame: refusal 4 at its place for any other
+abbrev pub kind_of : ℕ → Result Kind Refusal
+kind_of k =
+    if k == 0x45 then Ok E
+    else if k == 0x44 then Ok D
+    else refused Unknown 3
+
+-- what byte 2, the code, and byte 3 say
+abbrev pub named : ℕ → ℕ → Result Outer Refusal
+named code k =
+    if code == SPE then and_then (kind_of k) (λ kind. Ok (Strip kind))
+    else and_then (control_of code) (λ control. Ok (Control control))
 
 -- L of a result frame, by the ID length
-abbrev pub length_e : ℕ → ℕ
-length_e l = if l == short_id then 236 else 239
+abbrev pub strip_length : Kind → IdLength → ℕ
+strip_length E Short = 236
+strip_length E Long = 239
+strip_length D Short = 78
+strip_length D Long = 81
 
-abbrev pub length_d : ℕ → ℕ
-length_d l = if l == short_id then 78 else 81
+-- L of any frame
+abbrev pub length_of : Outer → IdLength → ℕ
+length_of (Control control) l = control_length
+length_of (Strip kind) l = strip_length kind l
 
--- a frame of a known code, if its length is the due one
-abbrev pub sized : ℕ → ℕ → Outer → Outer
-sized due L o = if L == due then o else Refused (refused mislength 0)
+-- a frame of L bytes, if that is its length
+abbrev pub sized : IdLength → ℕ → Outer → Result Outer Refusal
+sized l L o = if L == length_of o l then Ok o else refused Mislength 0
 
--- 'E' or 'D' in a result frame
-abbrev pub by_kind : ℕ → ℕ → ℕ → Outer
-by_kind l L k =
-    if k == 0x45 then sized (length_e l) L StripE
-    else if k == 0x44 then sized (length_d l) L StripD
-    else Refused (refused unknown 3)
-
--- byte 2, the code, and byte 3
-abbrev pub by_code : ℕ → ℕ → ℕ → ℕ → Outer
-by_code l L code k =
-    if code == END then sized control_length L End
-    else if code == SPE then by_kind l L k
-    else if code == SPM then sized control_length L Spm
-    else if code == MOR then sized control_length L More
-    else if code == REP then sized control_length L Repeat
-    else Refused (refused unknown 2)
-
-abbrev pub outer_of : Settings → List ℕ → Outer
+abbrev pub outer_of : Settings → List ℕ → Result Outer Refusal
 outer_of s f =
-    if not (settings_offered s) then Refused (refused not_offered 0)
-    else if not (shaped f) then Refused (refused misshapen 0)
-    else if not (marked s.procedure f) then Refused (refused untrue (length f - 2))
-    else by_code s.id (length f) (slice_index f 1) (slice_index f 2)
+    and_then (offered_of s) (λ link.
+    if not (shaped f) then refused Misshapen 0
+    else if not (marked link.procedure f) then refused Untrue (length f - 2)
+    else and_then (named (slice_index f 1) (slice_index f 2)) (sized link.id (length f)))

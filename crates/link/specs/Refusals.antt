@@ -1,41 +1,30 @@
--- Refusals: a number and a place, and why each is given.
+-- Refusals: why, and where.
 -- Assumes nothing.
-use Rattle.std.specs.Prelude.{ℕ}
+use Rattle.std.specs.Prelude.{ℕ, Result, Ok, Err}
+use Rattle.link.specs.declared.settings.Why.{Why}
+use Rattle.link.specs.declared.settings.Why.TheVariants.{NotOffered, Misshapen, Untrue, Unknown, Mislength, FixedWrong, FieldWrong, NoRoom, NotInForm, TooLong, BadState, BadEvent}
 use Rattle.link.specs.declared.settings.Refusal.{Refusal}
 
--- why something is refused, in the order of the rules' table
-pub data Why : Type 0 where
-  not_offered : Why
-  misshapen : Why
-  untrue : Why
-  unknown : Why
-  mislength : Why
-  fixed_wrong : Why
-  field_wrong : Why
-  no_room : Why
-  not_in_form : Why
-  too_long : Why
-  bad_state : Why
-  bad_event : Why
-
--- the table's number
+-- the rules' number
 abbrev pub number_of : Why → ℕ
-number_of not_offered = 1
-number_of misshapen = 2
-number_of untrue = 3
-number_of unknown = 4
-number_of mislength = 5
-number_of fixed_wrong = 6
-number_of field_wrong = 7
-number_of no_room = 8
-number_of not_in_form = 9
-number_of too_long = 10
-number_of bad_state = 11
-number_of bad_event = 12
+number_of NotOffered = 1
+number_of Misshapen = 2
+number_of Untrue = 3
+number_of Unknown = 4
+number_of Mislength = 5
+number_of FixedWrong = 6
+number_of FieldWrong = 7
+number_of NoRoom = 8
+number_of NotInForm = 9
+number_of TooLong = 10
+number_of BadState = 11
+number_of BadEvent = 12
 
-abbrev pub refused : Why → ℕ → Refusal
-refused w p = record { number = number_of w; place = p }
+-- an answer that refuses, for a reason and at a place
+abbrev pub refused : {A : Type 0} → Why → ℕ → Result A Refusal
+refused why place = Err (record { why = why; place = place })
 
--- no refusal is the number 0 at the place 0
-abbrev pub accepted : Refusal
-accepted = record { number = 0; place = 0 }
+-- what follows a step, unless that is refused
+abbrev pub and_then : {A B : Type 0} → Result A Refusal → (A → Result B Refusal) → Result B Refusal
+and_then (Ok x) go = go x
+and_then (Err e) go = Err e

@@ -1,8 +1,9 @@
 // Test characters of a frame, by procedure a and by procedure b.
-ghost use Rattle.std.specs.Prelude.{◌≡◌, ◌%◌, ◌≤◌, length};
-ghost use Rattle.link.specs.Characters.{xor_of, sum_of, hex_of, pair_a, pair_b, pair_of, shaped, due_of};
+ghost use Rattle.std.specs.Prelude.{◌≡◌, ◌%◌, sum};
+ghost use Rattle.link.specs.Characters.{xor_of, hex_of, pair_a, pair_b, pair_of, shaped, due_of};
 
-use crate::settings::{ACCEPTED, MISSHAPEN, NOT_OFFERED, PROCEDURE_A, Refusal, procedure_offered};
+use crate::cut::HOLDS;
+use crate::settings::{Procedure, Refusal, Why};
 
 pub const STX: u8 = 2;
 
@@ -11,44 +12,27 @@ pub const ETX: u8 = 3;
 pub const CR: u8 = 13;
 
 // The two characters, as they stand at L-2 and L-1.
-#[derive(Clone, Copy)]
+#[derive(Clone, Copy, Debug, PartialEq, Eq)]
 pub struct Pair {
-    pub first: u8,
-    pub second: u8,
-}
-
-// The test characters due for a frame; 0 and 0 where it is refused.
-#[derive(Clone, Copy)]
-pub struct Due {
-    pub refusal: Refusal,
     pub first: u8,
     pub second: u8,
 }
 
 // The XOR of all bytes.
 fn xor_of(bytes: &[u8]) -> u8
-    ensures { result ≡ xor_of 0 bytes.now }
+    ensures { result ≡ xor_of bytes.now }
 {
-    let mut acc: u8 = 0;
-    let mut i = 0;
-    while i < bytes.len() {
-        acc = acc ^ bytes[i];
-        i += 1;
-    }
-    acc
+    bytes.iter().fold(0, |acc, byte| acc ^ byte)
 }
 
 // The sum of all bytes, modulo 256.
+#[tactic(auto, using(crate::proofs::Laws::sum_wraps))]
 fn sum_of(bytes: &[u8]) -> u8
-    ensures { result ≡ sum_of bytes.now % 256 }
+    ensures { result ≡ sum bytes.now % 256 }
 {
-    let mut acc: u8 = 0;
-    let mut i = 0;
-    while i < bytes.len() {
-        acc = std::num::wrapping_add_u8(acc, bytes[i]);
-        i += 1;
-    }
-    acc
+    bytes
+        .iter()
+        .fold(0, |acc: u8, byte| acc.wrapping_add(*byte))
 }
 
 // A hexadecimal digit in capitals, of the low half-byte.
@@ -81,67 +65,35 @@ fn pair_b(bytes: &[u8]) -> Pair
     }
 }
 
-// The test characters of a frame whose bytes 1 to L-3, STX to ETX, are `front`.
-pub(crate) fn pair_of(procedure: u8, front: &[u8]) -> Pair
-    ensures { result ≡ pair_of procedure front.now }
-{
-    if procedure == PROCEDURE_A {
-        return pair_a(front);
+impl Procedure {
+    // The test characters of a frame whose bytes 1 to L-3, STX to ETX, are `front`.
+    pub(crate) fn pair(self, front: &[u8]) -> Pair
+        ensures { result ≡ pair_of self front.now }
+    {
+        match self {
+            Procedure::A => pair_a(front),
+            Procedure::B => match front {
+                [_, covered @ .., _] => pair_b(covered),
+                _ => pair_b(&[]),
+            },
+        }
     }
-    let n = front.len();
-    if n < 2 {
-        return pair_b(&front[..0]);
-    }
-    let e = n - 1;
-    pair_b(&front[1..e])
 }
 
 // Whether a frame has 6 to 255 bytes, with STX, ETX and CR in position.
 pub(crate) fn shaped(frame: &[u8]) -> bool
     ensures { result ≡ shaped frame.now }
 {
-    let n = frame.len();
-    if n < 6 {
-        return false;
-    }
-    if 255 < n {
-        return false;
-    }
-    if frame[0] != STX {
-        return false;
-    }
-    if frame[n - 4] != ETX {
-        return false;
-    }
-    frame[n - 1] == CR
-}
-
-// No test characters, for a reason.
-fn not_due(number: u8) -> Due
-    ensures { result ≡ record { refusal = record { number = number; place = 0 }; first = 0; second = 0 } }
-{
-    Due {
-        refusal: Refusal { number, place: 0 },
-        first: 0,
-        second: 0,
-    }
+    frame.len() <= HOLDS && matches!(frame, [STX, _, .., ETX, _, _, CR])
 }
 
 // The test characters due for a frame of L bytes, whatever stands in their place.
-pub fn test_characters(procedure: u8, frame: &[u8]) -> Due
+pub fn test_characters(procedure: u8, frame: &[u8]) -> Result<Pair, Refusal>
     ensures { result ≡ due_of procedure frame.now }
 {
-    if !procedure_offered(procedure) {
-        return not_due(NOT_OFFERED);
-    }
+    let procedure = Procedure::try_from(procedure)?;
     if !shaped(frame) {
-        return not_due(MISSHAPEN);
+        return Err(Why::Misshapen.into());
     }
-    let e = frame.len() - 3;
-    let m = pair_of(procedure, &frame[..e]);
-    Due {
-        refusal: ACCEPTED,
-        first: m.first,
-        second: m.second,
-    }
+    Ok(procedure.pair(&frame[..frame.len() - 3]))
 }

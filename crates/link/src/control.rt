@@ -1,9 +1,9 @@
 // Control frames, of 6 bytes.
 ghost use Rattle.std.specs.Prelude.{◌≡◌};
-ghost use Rattle.link.specs.Control.{control_code, control_outcome};
+ghost use Rattle.link.specs.Control.{code_of, control_of, control_frame, control_outcome};
 
-use crate::characters::{CR, ETX, STX, pair_of};
-use crate::settings::{ACCEPTED, NO_ROOM, NOT_OFFERED, Refusal, UNKNOWN, procedure_offered};
+use crate::characters::{CR, ETX, STX};
+use crate::settings::{Procedure, Refusal, Why};
 
 pub const END: u8 = b':';
 
@@ -18,50 +18,69 @@ pub const REP: u8 = b'?';
 
 pub const CONTROL_LENGTH: usize = 6;
 
-fn control_code(code: u8) -> bool
-    ensures { result ≡ control_code code }
-{
-    if code == END {
-        return true;
+// What a control frame says. More is MOR or ANY, by who sent it.
+#[derive(Clone, Copy, Debug, PartialEq, Eq)]
+pub enum Control {
+    End,
+    Spm,
+    More,
+    Repeat,
+}
+
+// By its code, byte 2 of a frame.
+impl TryFrom<u8> for Control {
+    type Error = Refusal;
+
+    ghost try_from_gives = { λ code r. r ≡ control_of code };
+
+    fn try_from(code: u8) -> Result<Self, Refusal> {
+        match code {
+            END => Ok(Control::End),
+            SPM => Ok(Control::Spm),
+            MOR => Ok(Control::More),
+            REP => Ok(Control::Repeat),
+            _ => Err(Refusal {
+                why: Why::Unknown,
+                place: 2,
+            }),
+        }
     }
-    if code == SPM {
-        return true;
+}
+
+// Its code.
+impl From<Control> for u8 {
+    ghost from_gives = { λ control code. code ≡ code_of control };
+
+    fn from(control: Control) -> u8 {
+        match control {
+            Control::End => END,
+            Control::Spm => SPM,
+            Control::More => MOR,
+            Control::Repeat => REP,
+        }
     }
-    if code == MOR {
-        return true;
+}
+
+impl Control {
+    // The whole frame.
+    fn frame(self, procedure: Procedure) -> [u8; 6]
+        ensures { result ≡ control_frame procedure self }
+    {
+        let code = u8::from(self);
+        let due = procedure.pair(&[STX, code, ETX]);
+        [STX, code, ETX, due.first, due.second, CR]
     }
-    code == REP
 }
 
 // Writes the control frame of a code to the first 6 bytes of `out`; the bytes past it stay.
-pub fn control_frame(procedure: u8, code: u8, out: &mut [u8]) -> Refusal
+pub fn control_frame(procedure: u8, code: u8, out: &mut [u8]) -> Result<(), Refusal>
     ensures { (result, out.new) ≡ control_outcome procedure code out.old }
 {
-    if !procedure_offered(procedure) {
-        return Refusal {
-            number: NOT_OFFERED,
-            place: 0,
-        };
-    }
-    if !control_code(code) {
-        return Refusal {
-            number: UNKNOWN,
-            place: 2,
-        };
-    }
+    let procedure = Procedure::try_from(procedure)?;
+    let control = Control::try_from(code)?;
     if out.len() < CONTROL_LENGTH {
-        return Refusal {
-            number: NO_ROOM,
-            place: 0,
-        };
+        return Err(Why::NoRoom.into());
     }
-    let front = [STX, code, ETX];
-    let m = pair_of(procedure, &front);
-    out[0] = STX;
-    out[1] = code;
-    out[2] = ETX;
-    out[3] = m.first;
-    out[4] = m.second;
-    out[5] = CR;
-    ACCEPTED
+    out[..CONTROL_LENGTH].copy_from_slice(&control.frame(procedure));
+    Ok(())
 }

@@ -1,19 +1,18 @@
 // Cutting bytes into frames: the receiver, one byte at a time, and the finder, over a capture.
 //
 // Outside a frame all but STX is dropped; STX always begins anew; CR closes. One decision, `judge`, serves receiver and finder.
-ghost use Rattle.std.specs.Prelude.{◌≡◌, length};
-ghost use Rattle.link.specs.Cut.{act_of, receive_of, refusal_in, first_from, span_of, bytes_of, frames_of};
+ghost use Rattle.std.specs.Prelude.{◌≡◌, length, option_copied};
+ghost use Rattle.link.specs.Cut.{fresh, act_of, receive_of, refusal_in, first_from, span_of, bytes_of, frames_of, fed_of};
 
 use crate::characters::{CR, STX};
-use crate::settings::{ACCEPTED, BAD_STATE, MISSHAPEN, Refusal};
+use crate::settings::{Refusal, Why};
 
 // As many bytes as a receiver can hold, and a frame can have.
 pub const HOLDS: usize = 255;
 
-// What a byte does to a receiver that holds `count` bytes.
-#[derive(Clone, Copy)]
+// What a byte does to a receiver.
+#[derive(Clone, Copy, Debug, PartialEq, Eq)]
 pub enum Act {
-    Refuse,
     Begin,
     Skip,
     Drop,
@@ -21,144 +20,162 @@ pub enum Act {
     Keep,
 }
 
+// To one that holds `count` bytes, of 255 at most.
 fn judge(count: usize, byte: u8) -> Act
     ensures { result ≡ act_of count byte }
 {
-    if HOLDS < count {
-        return Act::Refuse;
-    }
     if byte == STX {
-        return Act::Begin;
+        Act::Begin
+    } else if count == 0 {
+        Act::Skip
+    } else if count == HOLDS {
+        Act::Drop
+    } else if byte == CR {
+        Act::Close
+    } else {
+        Act::Keep
     }
-    if count == 0 {
-        return Act::Skip;
-    }
-    if count == HOLDS {
-        return Act::Drop;
-    }
-    if byte == CR {
-        return Act::Close;
-    }
-    Act::Keep
 }
 
-#[derive(Clone, Copy)]
+// What a receiver meets. It holds nothing after either.
+#[derive(Clone, Copy, Debug, PartialEq, Eq)]
 pub enum Received {
-    // No frame yet; so many bytes are held now.
-    Nothing(usize),
-    // A frame: the first so many bytes held. None is held after it.
+    // A frame: the first so many of its bytes.
     Frame(usize),
-    // 255 bytes without a CR were dropped, refusal 2. None is held after it.
+    // 255 bytes without a CR were dropped.
     Dropped,
-    // Refusal 11: a count over 255.
-    Refused,
 }
 
-// Takes one byte to the `count` bytes held in the lent ones. A frame is the first so many of them.
-pub fn receive(held: &mut [u8; HOLDS], count: usize, byte: u8) -> Received
-    ensures { (result, held.new) ≡ receive_of held.old count byte }
-{
-    match judge(count, byte) {
-        Act::Refuse => Received::Refused,
-        Act::Begin => {
-            held[0] = byte;
-            Received::Nothing(1)
-        }
-        Act::Skip => Received::Nothing(0),
-        Act::Drop => Received::Dropped,
-        Act::Close => {
-            held[count] = byte;
-            Received::Frame(count + 1)
-        }
-        Act::Keep => {
-            held[count] = byte;
-            Received::Nothing(count + 1)
-        }
-    }
+// What a receiver met in a run of bytes, and how many of them it took for that.
+#[derive(Clone, Copy, Debug, PartialEq, Eq)]
+pub struct Fed {
+    pub received: Received,
+    pub used: usize,
 }
 
-// The rules' number for an answer: a loss counts as a frame refused 2.
-pub fn refusal_in(received: Received) -> Refusal
-    ensures { result ≡ refusal_in received }
-{
-    match received {
-        Received::Nothing(_) => ACCEPTED,
-        Received::Frame(_) => ACCEPTED,
-        Received::Dropped => Refusal {
-            number: MISSHAPEN,
-            place: 0,
-        },
-        Received::Refused => Refusal {
-            number: BAD_STATE,
-            place: 0,
-        },
-    }
-}
-
-// A part of a capture; `len` is 0 where there is none.
+// The receiver: 255 bytes, of which it holds the first `count`. A count over 255 is refused, 11.
 #[derive(Clone, Copy)]
+pub struct Receiver {
+    pub held: [u8; HOLDS],
+    pub count: usize,
+}
+
+impl Receiver {
+    // One that holds nothing.
+    #[tactic(auto, unfolding(crate::specs::Cut::fresh))]
+    pub fn fresh() -> Receiver
+        ensures { result ≡ fresh }
+    {
+        Receiver {
+            held: [0; HOLDS],
+            count: 0,
+        }
+    }
+
+    // Takes one byte.
+    pub fn receive(&mut self, byte: u8) -> Result<Option<Received>, Refusal>
+        ensures { (result, self.new) ≡ receive_of self.old byte }
+    {
+        if HOLDS < self.count {
+            return Err(Why::BadState.into());
+        }
+        match judge(self.count, byte) {
+            Act::Begin => {
+                self.held[0] = byte;
+                self.count = 1;
+                Ok(None)
+            }
+            Act::Skip => Ok(None),
+            Act::Drop => {
+                self.count = 0;
+                Ok(Some(Received::Dropped))
+            }
+            Act::Close => {
+                let len = self.count + 1;
+                self.held[self.count] = byte;
+                self.count = 0;
+                Ok(Some(Received::Frame(len)))
+            }
+            Act::Keep => {
+                self.held[self.count] = byte;
+                self.count += 1;
+                Ok(None)
+            }
+        }
+    }
+
+    // Takes the bytes of a run one by one, up to the first frame or loss; `None` where all are used up before.
+    pub fn feed(&mut self, bytes: &[u8]) -> Result<Option<Fed>, Refusal>
+        ensures { (result, self.new) ≡ fed_of self.old 0 bytes.now }
+    {
+        for (i, byte) in bytes.iter().enumerate() {
+            if let Some(received) = self.receive(*byte)? {
+                return Ok(Some(Fed {
+                    received,
+                    used: i + 1,
+                }));
+            }
+        }
+        Ok(None)
+    }
+}
+
+// The refusal in a receiver's answer: a loss counts as a frame refused 2.
+pub fn refusal_in(answer: Result<Option<Received>, Refusal>) -> Result<(), Refusal>
+    ensures { result ≡ refusal_in answer }
+{
+    match answer? {
+        Some(Received::Dropped) => Err(Why::Misshapen.into()),
+        Some(Received::Frame(_)) | None => Ok(()),
+    }
+}
+
+// A part of a capture.
+#[derive(Clone, Copy, Debug, PartialEq, Eq)]
 pub struct Span {
     pub at: usize,
     pub len: usize,
 }
 
 // Where the first frame stands that a fresh receiver would hand over, fed from `start`.
-pub fn locate(capture: &[u8], start: usize) -> Span
+pub fn locate(capture: &[u8], start: usize) -> Option<Span>
     ensures { result ≡ span_of (first_from capture.now start) }
 {
     let mut count: usize = 0;
-    let mut at = start;
-    while at < capture.len() {
-        let act = judge(count, capture[at]);
-        at += 1;
-        match act {
-            Act::Begin => {
-                count = 1;
-            }
-            Act::Keep => {
-                count += 1;
-            }
+    for at in start..capture.len() {
+        count = match judge(count, capture[at]) {
+            Act::Begin => 1,
+            Act::Keep => count + 1,
             Act::Close => {
                 let len = count + 1;
-                return Span { at: at - len, len };
+                return Some(Span {
+                    at: at + 1 - len,
+                    len,
+                });
             }
-            Act::Skip => {
-                count = 0;
-            }
-            Act::Drop => {
-                count = 0;
-            }
-            Act::Refuse => {
-                count = 0;
-            }
-        }
+            Act::Skip | Act::Drop => 0,
+        };
     }
-    Span { at: 0, len: 0 }
+    None
 }
 
-// The first frame itself, as a part of the capture; empty where there is none.
-pub fn find(capture: &[u8], start: usize) -> &[u8]
-    ensures { result.now ≡ bytes_of (first_from capture.now start) }
+// The first frame itself, as a part of the capture.
+pub fn find(capture: &[u8], start: usize) -> Option<&[u8]>
+    ensures { option_copied result ≡ bytes_of (first_from capture.now start) }
 {
-    let s = locate(capture, start);
-    let at = s.at;
-    let end = at + s.len;
-    &capture[at..end]
+    let Span { at, len } = locate(capture, start)?;
+    Some(&capture[at..at + len])
 }
 
 // How many frames a receiver hands over that is fed the capture.
 pub fn count_frames(capture: &[u8]) -> usize
     ensures { result ≡ length (frames_of capture.now) }
 {
-    let mut n: usize = 0;
-    let mut start: usize = 0;
-    loop {
-        let s = locate(capture, start);
-        let len = s.len;
-        if len == 0 {
-            return n;
-        }
+    let mut n = 0;
+    let mut start = 0;
+    while let Some(span) = locate(capture, start) {
         n += 1;
-        start = s.at + len;
+        start = span.at + span.len;
     }
+    n
 }

@@ -7,6 +7,5 @@ pub mod characters;
 pub mod claims;
 pub mod control;
 pub mod cut;
-pub mod feed;
 pub mod outer;
 pub mod settings;

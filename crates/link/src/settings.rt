@@ -1,49 +1,56 @@
-// A link's settings, and refusals: a number and a place everywhere.
+// A link's settings, and refusals: why, and where.
 ghost use Rattle.std.specs.Prelude.{◌≡◌};
-ghost use Rattle.link.specs.Settings.{procedure_offered, id_offered, settings_offered, offered_of};
+ghost use Rattle.link.specs.Refusals.{number_of};
+ghost use Rattle.link.specs.Settings.{procedure_of, id_of, offered_of};
 
-// The test procedure as a letter, 'a' or 'b', and the length of an ID, 10 or 13.
-#[derive(Clone, Copy)]
+// Why something is refused, by the number of the rules' table.
+#[derive(Clone, Copy, Debug, PartialEq, Eq)]
+pub enum Why {
+    NotOffered = 1,
+    Misshapen = 2,
+    Untrue = 3,
+    Unknown = 4,
+    Mislength = 5,
+    FixedWrong = 6,
+    FieldWrong = 7,
+    NoRoom = 8,
+    NotInForm = 9,
+    TooLong = 10,
+    BadState = 11,
+    BadEvent = 12,
+}
+
+// The table's number.
+impl From<Why> for u8 {
+    ghost from_gives = { λ why n. n ≡ number_of why };
+
+    fn from(why: Why) -> u8 {
+        why as u8
+    }
+}
+
+// A refusal: why, and a place counted from 1, or 0 where it has no single place.
+#[derive(Clone, Copy, Debug, PartialEq, Eq)]
+pub struct Refusal {
+    pub why: Why,
+    pub place: u16,
+}
+
+// Most refusals have no single place.
+impl From<Why> for Refusal {
+    ghost from_gives = { λ why r. r ≡ record { why = why; place = 0 } };
+
+    fn from(why: Why) -> Refusal {
+        Refusal { why, place: 0 }
+    }
+}
+
+// A link's settings as a caller has them: the test procedure's letter, and the length of an ID.
+#[derive(Clone, Copy, Debug, PartialEq, Eq)]
 pub struct Settings {
     pub procedure: u8,
     pub id: u8,
 }
-
-// The number of the rules' table, and a place counted from 1; 0 and 0 where nothing is refused.
-#[derive(Clone, Copy)]
-pub struct Refusal {
-    pub number: u8,
-    pub place: u16,
-}
-
-pub const ACCEPTED: Refusal = Refusal {
-    number: 0,
-    place: 0,
-};
-
-pub const NOT_OFFERED: u8 = 1;
-
-pub const MISSHAPEN: u8 = 2;
-
-pub const UNTRUE: u8 = 3;
-
-pub const UNKNOWN: u8 = 4;
-
-pub const MISLENGTH: u8 = 5;
-
-pub const FIXED_WRONG: u8 = 6;
-
-pub const FIELD_WRONG: u8 = 7;
-
-pub const NO_ROOM: u8 = 8;
-
-pub const NOT_IN_FORM: u8 = 9;
-
-pub const TOO_LONG: u8 = 10;
-
-pub const BAD_STATE: u8 = 11;
-
-pub const BAD_EVENT: u8 = 12;
 
 pub const PROCEDURE_A: u8 = b'a';
 
@@ -53,42 +60,61 @@ pub const SHORT_ID: u8 = 10;
 
 pub const LONG_ID: u8 = 13;
 
-pub(crate) fn procedure_offered(procedure: u8) -> bool
-    ensures { result ≡ procedure_offered procedure }
-{
-    if procedure == PROCEDURE_A {
-        return true;
-    }
-    procedure == PROCEDURE_B
+// The test procedures that are offered.
+#[derive(Clone, Copy, Debug, PartialEq, Eq)]
+pub enum Procedure {
+    A,
+    B,
 }
 
-pub(crate) fn id_offered(length: u8) -> bool
-    ensures { result ≡ id_offered length }
-{
-    if length == SHORT_ID {
-        return true;
+impl TryFrom<u8> for Procedure {
+    type Error = Refusal;
+
+    ghost try_from_gives = { λ letter r. r ≡ procedure_of letter };
+
+    fn try_from(letter: u8) -> Result<Self, Refusal> {
+        match letter {
+            PROCEDURE_A => Ok(Procedure::A),
+            PROCEDURE_B => Ok(Procedure::B),
+            _ => Err(Why::NotOffered.into()),
+        }
     }
-    length == LONG_ID
 }
 
-pub(crate) fn settings_offered(settings: Settings) -> bool
-    ensures { result ≡ settings_offered settings }
-{
-    if procedure_offered(settings.procedure) {
-        return id_offered(settings.id);
-    }
-    false
+// The lengths of an ID that are offered.
+#[derive(Clone, Copy, Debug, PartialEq, Eq)]
+pub enum IdLength {
+    Short,
+    Long,
 }
 
-// Whether a link can be set so: refusal 1 where not.
-pub fn offered(settings: Settings) -> Refusal
+impl TryFrom<u8> for IdLength {
+    type Error = Refusal;
+
+    ghost try_from_gives = { λ length r. r ≡ id_of length };
+
+    fn try_from(length: u8) -> Result<Self, Refusal> {
+        match length {
+            SHORT_ID => Ok(IdLength::Short),
+            LONG_ID => Ok(IdLength::Long),
+            _ => Err(Why::NotOffered.into()),
+        }
+    }
+}
+
+// What a link is set to.
+#[derive(Clone, Copy, Debug, PartialEq, Eq)]
+pub struct Link {
+    pub procedure: Procedure,
+    pub id: IdLength,
+}
+
+// The settings, if a link can have them: refusal 1 if not.
+pub fn offered(settings: Settings) -> Result<Link, Refusal>
     ensures { result ≡ offered_of settings }
 {
-    if settings_offered(settings) {
-        return ACCEPTED;
-    }
-    Refusal {
-        number: NOT_OFFERED,
-        place: 0,
-    }
+    Ok(Link {
+        procedure: Procedure::try_from(settings.procedure)?,
+        id: IdLength::try_from(settings.id)?,
+    })
 }

@@ -1,28 +1,26 @@
--- Each part that the finder gives lies within the capture, and is the next of its frames.
+-- Each part that the finder gives is the next of the frames.
 -- Assumes nothing.
 use Rattle.std.proofs.Common.{arith}
-use Rattle.link.proofs.Held.{part}
-use Rattle.link.proofs.Frames.{next}
+use Rattle.std.specs.Prelude.{Some, None}
+use Rattle.link.proofs.Frames.{found}
 use Rattle.link.proofs.cut.count_frames.Goals as goal
-
-pub returns-then-len-eq0 : goal.returns-then-len-eq0
-returns-then-len-eq0 c =
-    let N = next c.args.capture.now c.loop-s.start c.locate-s.result c.locate-s.ensures in
-    omega (arith, N.ends c.if-len-eq0.true)
 
 pub overflow_add-start : goal.overflow_add-start
 overflow_add-start c =
-    let P = part c.args.capture.now c.loop-s.start c.locate-s.result c.locate-s.ensures in
+    let P = found c.args.capture.now c.loop-span.start (Some c.in-Some.span) c.in-Some.ensures in
     omega (arith, P.inside)
 
-pub loop-s-smaller : goal.loop-s-smaller
-loop-s-smaller c =
-    let P = part c.args.capture.now c.loop-s.start c.locate-s.result c.locate-s.ensures in
-    let N = next c.args.capture.now c.loop-s.start c.locate-s.result c.locate-s.ensures in
-    omega (arith, P.inside, N.far c.if-len-eq0.false)
+pub loop-span-smaller : goal.loop-span-smaller
+loop-span-smaller c =
+    let P = found c.args.capture.now c.loop-span.start (Some c.in-Some.span) c.in-Some.ensures in
+    omega (arith, P.inside, P.far)
 
-pub loop-s-preserved : goal.loop-s-preserved
-loop-s-preserved c =
-    let P = part c.args.capture.now c.loop-s.start c.locate-s.result c.locate-s.ensures in
-    let N = next c.args.capture.now c.loop-s.start c.locate-s.result c.locate-s.ensures in
-    omega (arith, P.inside, N.far c.if-len-eq0.false, N.goes c.if-len-eq0.false)
+pub loop-span-preserved : goal.loop-span-preserved
+loop-span-preserved c =
+    let P = found c.args.capture.now c.loop-span.start (Some c.in-Some.span) c.in-Some.ensures in
+    omega (arith, P.inside, P.far, P.goes)
+
+pub returns : goal.returns
+returns c =
+    let N = found c.args.capture.now c.loop-span.start None c.in_default.ensures in
+    omega (arith, N.1)

@@ -1,22 +1,23 @@
 -- The part lies within the capture, and its bytes are the frame handed over.
 -- Assumes nothing.
-use Rattle.std.proofs.Common.{◌≡◌, ◌+◌, ◌-◌, arith}
-use Rattle.link.proofs.Held.{part}
+use Rattle.std.proofs.Common.{◌≡◌, ◌+◌, ◌-◌, sym, arith}
+use Rattle.std.specs.Prelude.{Some}
+use Rattle.link.proofs.Frames.{found}
 use Rattle.link.proofs.cut.find.Goals as goal
 
-pub overflow_add-end : goal.overflow_add-end
-overflow_add-end c =
-    let P = part c.args.capture.now c.args.start c.locate-s.result c.locate-s.ensures in
+pub overflow_add-result : goal.overflow_add-result
+overflow_add-result c =
+    let P = found c.args.capture.now c.args.start (Some c.in_ok-at.field-0) c.in_ok-at.ensures in
     omega (arith, P.inside)
 
 pub slice_bounds-result-end : goal.slice_bounds-result-end
 slice_bounds-result-end c =
-    let P = part c.args.capture.now c.args.start c.locate-s.result c.locate-s.ensures in
+    let P = found c.args.capture.now c.args.start (Some c.in_ok-at.field-0) c.in_ok-at.ensures in
     omega (arith, P.inside)
 
 pub returns : goal.returns
 returns c =
-    let r = c.locate-s.result in
-    let P = part c.args.capture.now c.args.start r c.locate-s.ensures in
+    let r = c.in_ok-at.field-0 in
+    let P = found c.args.capture.now c.args.start (Some r) c.in_ok-at.ensures in
     let e : r.at + r.len - r.at ≡ r.len = omega arith in
-    rw e P.bytes
+    rw e (sym P.bytes)

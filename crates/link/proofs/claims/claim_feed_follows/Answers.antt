@@ -1,7 +1,0 @@
--- The theorem is proved in Claimed.
--- Assumes nothing.
-use Rattle.link.proofs.Claimed.{feed_follows}
-use Rattle.link.proofs.claims.claim_feed_follows.Goals as goal
-
-pub returns : goal.returns
-returns c = feed_follows
