@@ -22,10 +22,7 @@ fn control(rt: &impl Print, procedure: u8, code: u8) -> io::Result<()> {
     print!(rt; "{letter} {name}")?;
     match control_frame(procedure, code, &mut out) {
         Ok(()) => show(rt, &out),
-        Err(refusal) => {
-            let number = u8::from(refusal.why);
-            println!(rt; " refused {number}")
-        }
+        Err(refusal) => println!(rt; " refused {}", refusal.why),
     }
 }
 

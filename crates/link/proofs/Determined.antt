@@ -1,22 +1,52 @@
 -- For each call, that two outcomes which its promise allows are equal: answer, state and every lent byte.
 -- Assumes nothing.
-use Rattle.std.proofs.Common.{◌≡◌, ℕ, List, length}
+use Rattle.std.proofs.Common.{◌≡◌, ℕ, List, length, Bor}
+use Rattle.std.specs.Prelude.{Option, Result, option_copied}
 use Rattle.text.proofs.Settled.{settled}
-use Rattle.std.specs.Prelude.{Option, Result}
-use Rattle.link.specs.Settings.{offered_of}
+use Rattle.link.specs.Refusals.{number_of}
+use Rattle.link.specs.Settings.{procedure_of, id_of, offered_of}
 use Rattle.link.specs.Characters.{due_of}
-use Rattle.link.specs.Control.{control_outcome}
-use Rattle.link.specs.Outer.{outer_of}
-use Rattle.link.specs.Cut.{Answer, fresh, receive_of, refusal_in, first_from, span_of, bytes_of, frames_of, fed_of}
-use Rattle.link.specs.declared.settings.Settings.{Settings}
-use Rattle.link.specs.declared.settings.Link.{Link}
+use Rattle.link.specs.Control.{code_of, control_of, control_outcome}
+use Rattle.link.specs.Outer.{kind_of, outer_of}
+use Rattle.link.specs.Cut.{Answer, fresh, receive_of, refusal_in, first_from, span_of, bytes_of, FindsNext, frames_of, fed_of}
+use Rattle.link.specs.declared.settings.Why.{Why}
 use Rattle.link.specs.declared.settings.Refusal.{Refusal}
+use Rattle.link.specs.declared.settings.Settings.{Settings}
+use Rattle.link.specs.declared.settings.Procedure.{Procedure}
+use Rattle.link.specs.declared.settings.IdLength.{IdLength}
+use Rattle.link.specs.declared.settings.Link.{Link}
 use Rattle.link.specs.declared.characters.Pair.{Pair}
+use Rattle.link.specs.declared.control.Control.{Control}
+use Rattle.link.specs.declared.outer.Kind.{Kind}
 use Rattle.link.specs.declared.outer.Outer.{Outer}
 use Rattle.link.specs.declared.cut.Receiver.{Receiver}
 use Rattle.link.specs.declared.cut.Span.{Span}
 use Rattle.link.specs.declared.cut.Fed.{Fed}
+use Rattle.link.specs.declared.cut.Finder.{Finder}
 
+-- the conversions
+pub u8_from_why-determined : (w : Why) {x y : ℕ} → x ≡ number_of w → y ≡ number_of w → x ≡ y
+u8_from_why-determined w = settled
+
+pub refusal_from_why-determined : (w : Why) {x y : Refusal} → x ≡ record { why = w; place = 0 } → y ≡ record { why = w; place = 0 } → x ≡ y
+refusal_from_why-determined w = settled
+
+pub procedure-determined : (p : ℕ) {x y : Result Procedure Refusal} → x ≡ procedure_of p → y ≡ procedure_of p → x ≡ y
+procedure-determined p = settled
+
+pub id_length-determined : (l : ℕ) {x y : Result IdLength Refusal} → x ≡ id_of l → y ≡ id_of l → x ≡ y
+id_length-determined l = settled
+
+pub control-determined : (code : ℕ) {x y : Result Control Refusal} → x ≡ control_of code → y ≡ control_of code → x ≡ y
+control-determined code = settled
+
+pub u8_from_control-determined : (c : Control) {x y : ℕ} → x ≡ code_of c → y ≡ code_of c → x ≡ y
+u8_from_control-determined c = settled
+
+pub kind-determined : (k : ℕ) {x y : Result Kind Refusal} → x ≡ kind_of k → y ≡ kind_of k → x ≡ y
+kind-determined k = settled
+
+-- the calls
 pub offered-determined : (s : Settings) {x y : Result Link Refusal} → x ≡ offered_of s → y ≡ offered_of s → x ≡ y
 offered-determined s = settled
 
@@ -49,3 +79,12 @@ count_frames-determined s = settled
 
 pub feed-determined : (r : Receiver) (bytes : List ℕ) {x y : Result (Option Fed) Refusal × Receiver} → x ≡ fed_of r 0 bytes → y ≡ fed_of r 0 bytes → x ≡ y
 feed-determined r bytes = settled
+
+-- what is handed out, and what the finder has before it then; a part of the capture is told by its bytes
+pub next-determined : (f : Finder) (x y : Option (Bor (List ℕ))) (t u : Finder) → FindsNext f x t → FindsNext f y u
+    → (option_copied x ≡ option_copied y) × (t.capture.now ≡ u.capture.now) × (t.start ≡ u.start)
+next-determined f x y t u p q = (settled p.0 q.0, settled p.1 q.1, settled p.2 q.2)
+
+pub new-determined : (capture : List ℕ) (t u : Finder) → (t.capture.now ≡ capture) × (t.start ≡ 0) → (u.capture.now ≡ capture) × (u.start ≡ 0)
+    → (t.capture.now ≡ u.capture.now) × (t.start ≡ u.start)
+new-determined capture t u p q = (settled p.0 q.0, settled p.1 q.1)

@@ -1,11 +1,15 @@
 -- The finder, started again after each frame, meets the frames that one receiver hands over as it runs on.
 -- Assumes nothing.
-use Rattle.std.proofs.Common.{◌≡◌, ℕ, suc, ◌+◌, ◌-◌, ◌<◌, ◌≤◌, List, [], ◌∷◌, length, take, drop, set, sym, refl, ap, ◌∙◌, subst, add-one, arith, length-drop, length-set, length-take-le, drop-drop, take-suc-set}
-use Rattle.std.specs.Prelude.{Option, Some, None, Ok, Err}
-use Rattle.link.specs.Cut.{Answer, act_of, holding, done, receive_of, onward, handed_from, first_from, fresh, Handed, none, after, span_of, bytes_of, listed, Event, loss, events_from, frames_in}
+use Rattle.std.proofs.Common.{◌≡◌, ℕ, suc, ◌+◌, ◌-◌, ◌<◌, ◌≤◌, List, [], ◌∷◌, length, get_or, take, drop, set, sym, refl, ap, ◌∙◌, subst, add-one, arith, length-drop, length-set, length-take-le, drop-drop, take-suc-set}
+use Rattle.std.proofs.Common.{Bor}
+use Rattle.std.proofs.lemmas.Iterator.{YieldsList}
+use Rattle.std.proofs.lemmas.Iterator.Consumers.{YieldsList-from_shown}
+use Rattle.std.specs.Prelude.{Option, Some, None, Ok, Err, slice_range}
+use Rattle.link.specs.Cut.{Answer, act_of, holding, done, receive_of, onward, handed_from, first_from, fresh, Handed, none, after, span_of, bytes_of, listed, Event, loss, events_from, frames_in, frames_of, frames_left, past, FindsNext}
 use Rattle.link.specs.Framed.{Sound, After}
 use Rattle.link.specs.declared.cut.Receiver.{Receiver}
 use Rattle.link.specs.declared.cut.Span.{Span}
+use Rattle.link.specs.declared.cut.Finder.{Finder}
 use Rattle.link.specs.declared.cut.Act.{Act}
 use Rattle.link.specs.declared.cut.Act.TheVariants.{Begin, Skip, Drop, Close, Keep}
 use Rattle.link.specs.declared.cut.Received.TheVariants.{Frame, Dropped}
@@ -95,38 +99,98 @@ told (b ∷ bs) r at H = answer at b bs (λ q S. told bs q (at + 1) S) (receive_
 pub first_told : (s : List ℕ) (start : ℕ) → Told (frames_from fresh (drop start s)) start (drop start s) (first_from s start)
 first_told s start = told (drop start s) fresh start sound_fresh
 
--- the finder's answer: no frame, and none to come; or a part of the capture that is the frame, and then the frames after it
+-- no more frames than bytes
+module _ (bs : List ℕ) (ih : (q : Receiver) → length (frames_from q bs) ≤ length bs) where
+  few_next : (o : Answer × Receiver) → length (frames_in (listed o (λ q. events_from q bs))) ≤ length bs + 1
+  few_next (Ok None, q) = omega (arith, ih q)
+  few_next (Ok (Some (Frame m)), q) = omega (arith, ih q)
+  few_next (Ok (Some Dropped), q) = omega (arith, ih q)
+  few_next (Err e, q) = omega arith
+
+few_from : (bs : List ℕ) (r : Receiver) → length (frames_from r bs) ≤ length bs
+few_from [] r = omega arith
+few_from (b ∷ bs) r = omega (arith, few_next bs (λ q. few_from bs q) (receive_of r b))
+
+pub few_frames : (s : List ℕ) → length (frames_of s) ≤ length s
+few_frames s = few_from s fresh
+
+-- of what the finder hands over: none, and none is to come; or a frame, and then those past it
+abbrev pub Rest : List ℕ → ℕ → Handed → Type 0
+Rest s start none = frames_of (drop start s) ≡ []
+Rest s start (after e f) = (start < e) × (frames_of (drop start s) ≡ f ∷ frames_of (drop e s))
+
+rest_told : (s : List ℕ) (start : ℕ) (x : Handed) → Told (frames_of (drop start s)) start (drop start s) x → Rest s start x
+rest_told s start none t = t
+rest_told s start (after e f) t =
+    let t0 = t.0 in
+    let z : start + (e - start) ≡ e = omega arith in
+    (t0, t.2 ∙ rw (drop-drop (e - start) start s, z))
+
+pub rest_from : (s : List ℕ) (start : ℕ) → Rest s start (first_from s start)
+rest_from s start = rest_told s start (first_from s start) (first_told s start)
+
+-- the part of the capture that the finder gives
 pub record Part (s : List ℕ) (start : ℕ) (r : Span) : Type 0 where
   pub inside : r.at + r.len ≤ length s
-  pub far : start < r.at + r.len
-  pub bytes : bytes_of (first_from s start) ≡ Some (take r.len (drop r.at s))
-  pub goes : length (frames_from fresh (drop start s)) ≡ length (frames_from fresh (drop (r.at + r.len) s)) + 1
+  pub bytes : bytes_of (first_from s start) ≡ Some (slice_range s r.at (r.at + r.len))
+  pub onto : r.at + r.len ≡ past (first_from s start) start
+  pub fewer : length (frames_of (drop (r.at + r.len) s)) < length (frames_of (drop start s))
 
 abbrev pub Found : List ℕ → ℕ → Option Span → Type 0
-Found s start None = (bytes_of (first_from s start) ≡ None) × (length (frames_from fresh (drop start s)) ≡ 0)
+Found s start None = first_from s start ≡ none
 Found s start (Some r) = Part s start r
 
 module _ (s : List ℕ) (start : ℕ) where
   found_of : Ended s start → Found s start (span_of (first_from s start))
-  found_of (nothing e) =
-      let t : Told (frames_from fresh (drop start s)) start (drop start s) none = rw e at (first_told s start) in
-      rw e (ap bytes_of e, ap length t)
+  found_of (nothing e) = rw e e
   found_of (closing n at l H e) =
       let f = take (n + 1) (drop (at - n) s) in
-      let c = held_close s start n at l H e in
+      let c = held_close s start n at l H (act_of n (get_or s at 0)) refl e in
       let k : length f ≡ n + 1 = length-take-le (n + 1) (drop (at - n) s) (simp length-drop (omega (arith, H.within))) in
-      let t : Told (frames_from fresh (drop start s)) start (drop start s) (after (at + 1) f) = rw c at (first_told s start) in
-      let t0 = t.0 in
+      let t : Rest s start (after (at + 1) f) = rw c at (rest_from s start) in
       let p : at + 1 - (n + 1) ≡ at - n = omega arith in
       let q : at - n + (n + 1) ≡ at + 1 = omega (arith, H.within) in
-      let z : start + (at + 1 - start) ≡ at + 1 = omega arith in
+      let w : at + 1 - (at - n) ≡ n + 1 = omega (arith, H.within) in
       rw (c, k, p)
       record {
         inside = omega (arith, H.within);
-        far = rw q t0;
-        bytes = rw c refl;
-        goes = rw (q, add-one (length (frames_from fresh (drop (at + 1) s)))) (ap length t.2 ∙ rw (drop-drop (at + 1 - start) start s, z));
+        bytes = rw (c, q, w) refl;
+        onto = rw (c, q) refl;
+        fewer = rw q (omega (arith, ap length t.1));
       }
 
-  pub found : (r : Option Span) → r ≡ span_of (first_from s start) → Found s start r
+  found : (r : Option Span) → r ≡ span_of (first_from s start) → Found s start r
   found r e = subst (Found s start) (sym e) (found_of (ended s start))
+
+  pub found_inside : (r : Span) → Some r ≡ span_of (first_from s start) → r.at + r.len ≤ length s
+  found_inside r e = (found (Some r) e).inside
+
+  pub found_bytes : (r : Span) → Some r ≡ span_of (first_from s start) → bytes_of (first_from s start) ≡ Some (slice_range s r.at (r.at + r.len))
+  found_bytes r e = (found (Some r) e).bytes
+
+  pub found_onto : (r : Span) → Some r ≡ span_of (first_from s start) → r.at + r.len ≡ past (first_from s start) start
+  found_onto r e = (found (Some r) e).onto
+
+  pub found_fewer : (r : Span) → Some r ≡ span_of (first_from s start) → length (frames_of (drop (r.at + r.len) s)) < length (frames_of (drop start s))
+  found_fewer r e = (found (Some r) e).fewer
+
+  pub found_none : None ≡ span_of (first_from s start) → first_from s start ≡ none
+  found_none e = found None e
+
+pub ruleset finds = (found_inside, found_bytes, found_onto, found_fewer, found_none)
+
+-- what a finder has left is what it gives, one after the other
+shown_none : (s : List ℕ) (start : ℕ) (x : Handed) → Rest s start x → None ≡ bytes_of x → length (frames_of (drop start s)) ≡ 0
+shown_none s start none t e = ap length t
+shown_none s start (after n f) t e = cc
+
+shown_some : (s : List ℕ) (start : ℕ) (x : Handed) (f : List ℕ) → Rest s start x → Some f ≡ bytes_of x → frames_of (drop start s) ≡ f ∷ frames_of (drop (past x start) s)
+shown_some s start none f t e = cc
+shown_some s start (after n g) f t e = let p : g ≡ f = cc in t.1 ∙ rw p refl
+
+pub left_yields : (f : Finder) → YieldsList FindsNext (λ x. x.now) f (frames_left f)
+left_yields f =
+    YieldsList-from_shown FindsNext (λ (x : Bor (List ℕ)). x.now) frames_left
+    (λ s t n. shown_none s.capture.now s.start (first_from s.capture.now s.start) (rest_from s.capture.now s.start) n.0)
+    (λ s x t n. shown_some s.capture.now s.start (first_from s.capture.now s.start) x.now (rest_from s.capture.now s.start) n.0 ∙ rw (n.1, n.2) refl)
+    f

@@ -1,14 +1,12 @@
 -- A receiver that was fed a capture from `start` up to `at`, has handed over nothing, and holds n bytes: those are the n bytes before `at`.
 -- Assumes nothing.
-use Rattle.std.proofs.Common.{◌≡◌, ℕ, zero, suc, ◌+◌, ◌-◌, ◌<◌, ◌≤◌, ◌⊎◌, inl, inr, List, length, get_or, take, drop, set, sym, refl, ap, ◌∙◌, add-one, arith, length-drop, length-set, drop_of_length-le, length-take-le, get_or-drop, take-suc, take-suc-set}
-use Rattle.std.specs.Prelude.{Option, Some, None}
-use Rattle.link.specs.Cut.{Answer, act_of, holding, done, onward, handed_from, first_from, fresh, span_of, none, after}
+use Rattle.std.proofs.Common.{◌≡◌, ℕ, zero, suc, ◌+◌, ◌-◌, ◌<◌, ◌≤◌, ◌⊎◌, inl, inr, List, length, get_or, take, drop, set, sym, refl, ap, ◌∙◌, add-one, arith, length-drop, length-set, drop_of_length-le, get_or-drop, take-suc, take-suc-set}
+use Rattle.link.specs.Cut.{Answer, act_of, holding, done, onward, handed_from, first_from, fresh, none, after}
 use Rattle.link.specs.declared.cut.Receiver.{Receiver}
-use Rattle.link.specs.declared.cut.Span.{Span}
 use Rattle.link.specs.declared.cut.Act.{Act}
 use Rattle.link.specs.declared.cut.Act.TheVariants.{Begin, Skip, Drop, Close, Keep}
 use Rattle.link.proofs.Laws.{rest, taken}
-use Rattle.link.proofs.Judged.{judged}
+use Rattle.link.proofs.Judged.{Judged, judged}
 
 pub record Held (s : List ℕ) (start n at : ℕ) : Type 0 where
   pub held : List ℕ
@@ -46,19 +44,23 @@ module _ (s : List ℕ) (start : ℕ) where
         run = ap (λ (r : Receiver). handed_from r start (drop start s)) (sym fresh_none);
       }
 
-  module _ (n at : ℕ) (l : at < length s) (H : Held s start n at) where
-    fed : (a : Act) → act_of n (get_or s at 0) ≡ a
+  -- one byte, by what it does
+  module _ (n at : ℕ) (l : at < length s) (H : Held s start n at) (act : Act) (was : act ≡ act_of n (get_or s at 0)) where
+    fed : (a : Act) → act ≡ a
         → onward (done a (holding H.held n) (get_or s at 0)) (at + 1) (λ r. handed_from r (at + 1) (drop (at + 1) s)) ≡ first_from s start
     fed a e =
-        ap (λ (x : Answer × Receiver). onward x (at + 1) (λ r. handed_from r (at + 1) (drop (at + 1) s))) (sym (taken H.held n (get_or s at 0) H.few a e))
+        ap (λ (x : Answer × Receiver). onward x (at + 1) (λ r. handed_from r (at + 1) (drop (at + 1) s))) (sym (taken H.held n (get_or s at 0) H.few a (sym was ∙ e)))
         ∙ sym (ap (handed_from (holding H.held n) at) (rest s at l))
         ∙ H.run
+
+    does : (a : Act) → act ≡ a → Judged n (get_or s at 0) a
+    does a e = judged n (get_or s at 0) H.few a (sym was ∙ e)
 
     -- nothing is held from here on
     clear : (k : ℕ) → handed_from (holding H.held k) (at + 1) (drop (at + 1) s) ≡ first_from s start → k ≡ 0 → Held s start 0 (at + 1)
     clear k r z = record { held = H.held; long = H.long; few = omega arith; within = omega arith; same = refl; run = rw z at r }
 
-    pub held_begin : act_of n (get_or s at 0) ≡ Begin → Held s start 1 (at + 1)
+    pub held_begin : act ≡ Begin → Held s start 1 (at + 1)
     held_begin e =
         let b = get_or s at 0 in
         let p : at + 1 - 1 ≡ at - 0 = omega arith in
@@ -71,10 +73,10 @@ module _ (s : List ℕ) (start : ℕ) where
           run = fed Begin e;
         }
 
-    pub held_keep : act_of n (get_or s at 0) ≡ Keep → Held s start (n + 1) (at + 1)
+    pub held_keep : act ≡ Keep → Held s start (n + 1) (at + 1)
     held_keep e =
         let b = get_or s at 0 in
-        let k = judged n b H.few Keep e in
+        let k = does Keep e in
         let p : at + 1 - (n + 1) ≡ at - n = omega arith in
         record {
           held = set H.held n b;
@@ -85,27 +87,17 @@ module _ (s : List ℕ) (start : ℕ) where
           run = fed Keep e;
         }
 
-    pub held_past : (act_of n (get_or s at 0) ≡ Skip) ⊎ (act_of n (get_or s at 0) ≡ Drop) → Held s start 0 (at + 1)
-    held_past (inl e) = clear n (fed Skip e) (judged n (get_or s at 0) H.few Skip e)
+    pub held_past : (act ≡ Skip) ⊎ (act ≡ Drop) → Held s start 0 (at + 1)
+    held_past (inl e) = clear n (fed Skip e) (does Skip e)
     held_past (inr e) = clear 0 (fed Drop e) refl
 
-    pub held_close : act_of n (get_or s at 0) ≡ Close → first_from s start ≡ after (at + 1) (take (n + 1) (drop (at - n) s))
+    pub held_close : act ≡ Close → first_from s start ≡ after (at + 1) (take (n + 1) (drop (at - n) s))
     held_close e =
-        let k = judged n (get_or s at 0) H.few Close e in
+        let k = does Close e in
         sym (fed Close e) ∙ ap (after (at + 1)) (grow H.held s n at H.within l (omega (arith, H.long)) H.same)
 
   pub held_end : (n at : ℕ) → length s ≤ at → Held s start n at → first_from s start ≡ none
   held_end n at l H = sym H.run ∙ rw (drop_of_length-le s l)
-
-  -- what the finder answers
-  pub span_close : (n at : ℕ) → at < length s → Held s start n at → act_of n (get_or s at 0) ≡ Close
-      → ◌≡◌ {A = Option Span} (Some (record { at = at + 1 - (n + 1); len = n + 1 })) (span_of (first_from s start))
-  span_close n at l H e =
-      let k : n + 1 ≤ length (drop (at - n) s) = simp length-drop (omega (arith, H.within)) in
-      rw (held_close n at l H e, length-take-le (n + 1) (drop (at - n) s) k)
-
-  pub span_end : (n at : ℕ) → length s ≤ at → Held s start n at → ◌≡◌ {A = Option Span} None (span_of (first_from s start))
-  span_end n at l H = rw (held_end n at l H)
 
 -- how a run ends: nothing is handed over, or a byte closes what is held
 pub data Ended (s : List ℕ) (start : ℕ) : Type 0 where
@@ -113,13 +105,13 @@ pub data Ended (s : List ℕ) (start : ℕ) : Type 0 where
   closing : (n at : ℕ) → at < length s → Held s start n at → act_of n (get_or s at 0) ≡ Close → Ended s start
 
 module _ (s : List ℕ) (start : ℕ) where
-  step : (n at : ℕ) → at < length s → Held s start n at → ((m : ℕ) → Held s start m (at + 1) → Ended s start)
-      → (a : Act) → act_of n (get_or s at 0) ≡ a → Ended s start
-  step n at l H go Begin e = go 1 (held_begin s start n at l H e)
-  step n at l H go Skip e = go 0 (held_past s start n at l H (inl e))
-  step n at l H go Drop e = go 0 (held_past s start n at l H (inr e))
-  step n at l H go Close e = closing n at l H e
-  step n at l H go Keep e = go (n + 1) (held_keep s start n at l H e)
+  step : (n at : ℕ) (l : at < length s) (H : Held s start n at) → ((m : ℕ) → Held s start m (at + 1) → Ended s start)
+      → (a : Act) → a ≡ act_of n (get_or s at 0) → Ended s start
+  step n at l H go Begin e = go 1 (held_begin s start n at l H Begin e refl)
+  step n at l H go Skip e = go 0 (held_past s start n at l H Skip e (inl refl))
+  step n at l H go Drop e = go 0 (held_past s start n at l H Drop e (inr refl))
+  step n at l H go Close e = closing n at l H (sym e)
+  step n at l H go Keep e = go (n + 1) (held_keep s start n at l H Keep e refl)
 
   walk : (k n at : ℕ) → length s - at ≡ k → Held s start n at → Ended s start
   walk zero n at e H = nothing (held_end s start n at (omega arith) H)
@@ -127,15 +119,3 @@ module _ (s : List ℕ) (start : ℕ) where
 
   pub ended : Ended s start
   ended = walk (length s - start) 0 start refl (held_none s start)
-
--- the next step of a finder, by what it judged the byte to do
-module _ (s : List ℕ) (start n at : ℕ) (l : at < length s) (H : Held s start n at) (a : Act) (was : a ≡ act_of n (get_or s at 0)) where
-  pub next_begin : a ≡ Begin → Held s start 1 (at + 1)
-  next_begin e = held_begin s start n at l H (sym was ∙ e)
-
-  pub next_keep : a ≡ Keep → Held s start (n + 1) (at + 1)
-  next_keep e = held_keep s start n at l H (sym was ∙ e)
-
-  pub next_past : (a ≡ Skip) ⊎ (a ≡ Drop) → Held s start 0 (at + 1)
-  next_past (inl e) = held_past s start n at l H (inl (sym was ∙ e))
-  next_past (inr e) = held_past s start n at l H (inr (sym was ∙ e))

@@ -1,6 +1,6 @@
 -- Test characters. Bytes are numbers; `bit_xor` and `bit_or` are the logic's, digit by digit, and compute at bytes.
 -- Assumes nothing.
-use Rattle.std.specs.Prelude.{ℕ, ◌+◌, ◌-◌, ◌/◌, ◌%◌, Bool, false, not, List, length, take, drop, fold, sum, Result, Ok, ◌==◌, bit_or, bit_xor, nat_lt, slice_index, if◌then◌else◌}
+use Rattle.std.specs.Prelude.{ℕ, ◌+◌, ◌-◌, ◌/◌, ◌%◌, ◌≡◌, Bool, true, false, not, List, length, take, drop, fold, sum, Result, Ok, Err, ◌==◌, bit_or, bit_xor, nat_lt, slice_index, if◌then◌else◌}
 use Rattle.link.specs.Refusals.{refused, and_then}
 use Rattle.link.specs.Settings.{procedure_of}
 use Rattle.link.specs.declared.settings.Why.TheVariants.{Misshapen}
@@ -8,6 +8,7 @@ use Rattle.link.specs.declared.settings.Refusal.{Refusal}
 use Rattle.link.specs.declared.settings.Procedure.{Procedure}
 use Rattle.link.specs.declared.settings.Procedure.TheVariants.{A, B}
 use Rattle.link.specs.declared.characters.Pair.{Pair}
+use Rattle.link.specs.declared.characters.Shaped.{Shaped}
 
 abbrev pub STX : ℕ
 STX = 0x02
@@ -48,6 +49,15 @@ shaped f =
     else if not (slice_index f 0 == STX) then false
     else if not (slice_index f (L - 4) == ETX) then false
     else (slice_index f (L - 1) == CR)
+
+-- the test characters that a frame has
+abbrev pub marks_of : List ℕ → Pair
+marks_of f = record { first = slice_index f (length f - 3); second = slice_index f (length f - 2) }
+
+-- a frame in shape, taken apart: its front and its test characters; any other is refused 2
+abbrev pub IsShaped : List ℕ → Result Shaped Refusal → Type 0
+IsShaped f (Ok p) = (shaped f ≡ true) × (p.front.now ≡ take (length f - 3) f) × (p.marks ≡ marks_of f)
+IsShaped f (Err e) = (shaped f ≡ false) × (e ≡ record { why = Misshapen; place = 0 })
 
 -- the test characters due for a frame: refusals 1 and 2
 abbrev pub due_of : ℕ → List ℕ → Result Pair Refusal

@@ -1,6 +1,7 @@
 -- Cutting bytes into frames: the receiver, one byte at a time, and what it means to run it over many.
 -- Assumes nothing.
-use Rattle.std.specs.Prelude.{ℕ, ◌+◌, ◌-◌, List, [], ◌∷◌, length, take, drop, replicate, Option, Some, None, Result, Ok, Err, ◌==◌, nat_lt, slice_set, if◌then◌else◌}
+use Rattle.std.specs.Prelude.{ℕ, ◌+◌, ◌-◌, List, [], ◌∷◌, length, take, drop, replicate, ◌≡◌, Option, Some, None, option_copied, Result, Ok, Err, ◌==◌, nat_lt, slice_set, if◌then◌else◌}
+use Rattle.std.proofs.Common.{Bor}
 use Rattle.link.specs.Refusals.{refused, and_then}
 use Rattle.link.specs.Characters.{STX, CR}
 use Rattle.link.specs.declared.settings.Why.TheVariants.{Misshapen, BadState}
@@ -12,6 +13,7 @@ use Rattle.link.specs.declared.cut.Received.TheVariants.{Frame, Dropped}
 use Rattle.link.specs.declared.cut.Fed.{Fed}
 use Rattle.link.specs.declared.cut.Receiver.{Receiver}
 use Rattle.link.specs.declared.cut.Span.{Span}
+use Rattle.link.specs.declared.cut.Finder.{Finder}
 
 -- no frame has more bytes than a receiver can hold
 abbrev pub holds : ℕ
@@ -91,6 +93,18 @@ abbrev pub bytes_of : Handed → Option (List ℕ)
 bytes_of none = None
 bytes_of (after e f) = Some f
 
+-- where the finder goes on: past the frame, or nowhere else
+abbrev pub past : Handed → ℕ → ℕ
+past none start = start
+past (after e f) start = e
+
+-- the finder's next frame, as a part of the capture, and the finder past it
+abbrev pub FindsNext : Finder → Option (Bor (List ℕ)) → Finder → Type 0
+FindsNext s r t =
+    (option_copied r ≡ bytes_of (first_from s.capture.now s.start))
+    × (t.capture.now ≡ s.capture.now)
+    × (t.start ≡ past (first_from s.capture.now s.start) s.start)
+
 -- ---- the events of a capture: frames and losses at 255, in order
 
 pub data Event : Type 0 where
@@ -122,6 +136,10 @@ frames_in (loss ∷ es) = frames_in es
 
 abbrev pub frames_of : List ℕ → List (List ℕ)
 frames_of capture = frames_in (events_of capture)
+
+-- those that a finder has left
+abbrev pub frames_left : Finder → List (List ℕ)
+frames_left f = frames_of (drop f.start f.capture.now)
 
 -- ---- the receiver fed a run of bytes, up to the first event
 

@@ -1,6 +1,6 @@
 // Test characters of a frame, by procedure a and by procedure b.
 ghost use Rattle.std.specs.Prelude.{◌≡◌, ◌%◌, sum};
-ghost use Rattle.link.specs.Characters.{xor_of, hex_of, pair_a, pair_b, pair_of, shaped, due_of};
+ghost use Rattle.link.specs.Characters.{xor_of, hex_of, pair_a, pair_b, pair_of, IsShaped, due_of};
 
 use crate::cut::HOLDS;
 use crate::settings::{Procedure, Refusal, Why};
@@ -80,11 +80,34 @@ impl Procedure {
     }
 }
 
-// Whether a frame has 6 to 255 bytes, with STX, ETX and CR in position.
-pub(crate) fn shaped(frame: &[u8]) -> bool
-    ensures { result ≡ shaped frame.now }
-{
-    frame.len() <= HOLDS && matches!(frame, [STX, _, .., ETX, _, _, CR])
+// A frame in shape: its front, STX to ETX, and the test characters that it has.
+#[derive(Clone, Copy)]
+pub(crate) struct Shaped<'a> {
+    pub front: &'a [u8],
+    pub marks: Pair,
+}
+
+// It has 6 to 255 bytes, with STX, ETX and CR in position.
+impl<'a> TryFrom<&'a [u8]> for Shaped<'a> {
+    type Error = Refusal;
+
+    ghost try_from_gives = { λ frame r. IsShaped frame.now r };
+
+    fn try_from(frame: &'a [u8]) -> Result<Self, Refusal> {
+        match frame {
+            [front @ .., first, second, CR]
+                if frame.len() <= HOLDS && matches!(front, [STX, _, .., ETX]) => {
+                Ok(Shaped {
+                    front,
+                    marks: Pair {
+                        first: *first,
+                        second: *second,
+                    },
+                })
+            }
+            _ => Err(Why::Misshapen.into()),
+        }
+    }
 }
 
 // The test characters due for a frame of L bytes, whatever stands in their place.
@@ -92,8 +115,6 @@ pub fn test_characters(procedure: u8, frame: &[u8]) -> Result<Pair, Refusal>
     ensures { result ≡ due_of procedure frame.now }
 {
     let procedure = Procedure::try_from(procedure)?;
-    if !shaped(frame) {
-        return Err(Why::Misshapen.into());
-    }
-    Ok(procedure.pair(&frame[..frame.len() - 3]))
+    let shape = Shaped::try_from(frame)?;
+    Ok(procedure.pair(shape.front))
 }

@@ -5,26 +5,15 @@ ghost use Rattle.link.specs.Control.{code_of, control_of, control_frame, control
 use crate::characters::{CR, ETX, STX};
 use crate::settings::{Procedure, Refusal, Why};
 
-pub const END: u8 = b':';
-
-pub const SPE: u8 = b';';
-
-pub const SPM: u8 = b'<';
-
-// MOR from the host, ANY from the reader.
-pub const MOR: u8 = b'>';
-
-pub const REP: u8 = b'?';
-
 pub const CONTROL_LENGTH: usize = 6;
 
-// What a control frame says. More is MOR or ANY, by who sent it.
+// What a control frame says, by its code: END, SPM, MOR and REP. The reader's ANY is the host's MOR.
 #[derive(Clone, Copy, Debug, PartialEq, Eq)]
 pub enum Control {
-    End,
-    Spm,
-    More,
-    Repeat,
+    End = 0x3A,
+    Spm = 0x3C,
+    More = 0x3E,
+    Repeat = 0x3F,
 }
 
 // By its code, byte 2 of a frame.
@@ -35,10 +24,10 @@ impl TryFrom<u8> for Control {
 
     fn try_from(code: u8) -> Result<Self, Refusal> {
         match code {
-            END => Ok(Control::End),
-            SPM => Ok(Control::Spm),
-            MOR => Ok(Control::More),
-            REP => Ok(Control::Repeat),
+            0x3A => Ok(Control::End),
+            0x3C => Ok(Control::Spm),
+            0x3E => Ok(Control::More),
+            0x3F => Ok(Control::Repeat),
             _ => Err(Refusal {
                 why: Why::Unknown,
                 place: 2,
@@ -52,18 +41,13 @@ impl From<Control> for u8 {
     ghost from_gives = { λ control code. code ≡ code_of control };
 
     fn from(control: Control) -> u8 {
-        match control {
-            Control::End => END,
-            Control::Spm => SPM,
-            Control::More => MOR,
-            Control::Repeat => REP,
-        }
+        control as u8
     }
 }
 
 impl Control {
     // The whole frame.
-    fn frame(self, procedure: Procedure) -> [u8; 6]
+    fn frame(self, procedure: Procedure) -> [u8; CONTROL_LENGTH]
         ensures { result ≡ control_frame procedure self }
     {
         let code = u8::from(self);

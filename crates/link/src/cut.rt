@@ -2,7 +2,8 @@
 //
 // Outside a frame all but STX is dropped; STX always begins anew; CR closes. One decision, `judge`, serves receiver and finder.
 ghost use Rattle.std.specs.Prelude.{◌≡◌, length, option_copied};
-ghost use Rattle.link.specs.Cut.{fresh, act_of, receive_of, refusal_in, first_from, span_of, bytes_of, frames_of, fed_of};
+ghost use Rattle.std.specs.Iterator.{item_count};
+ghost use Rattle.link.specs.Cut.{fresh, act_of, receive_of, refusal_in, first_from, span_of, bytes_of, FindsNext, frames_of, frames_left, fed_of};
 
 use crate::characters::{CR, STX};
 use crate::settings::{Refusal, Why};
@@ -138,6 +139,7 @@ pub struct Span {
 }
 
 // Where the first frame stands that a fresh receiver would hand over, fed from `start`.
+#[tactic(auto, using(crate::proofs::Held::held_none))]
 pub fn locate(capture: &[u8], start: usize) -> Option<Span>
     ensures { result ≡ span_of (first_from capture.now start) }
 {
@@ -163,19 +165,46 @@ pub fn locate(capture: &[u8], start: usize) -> Option<Span>
 pub fn find(capture: &[u8], start: usize) -> Option<&[u8]>
     ensures { option_copied result ≡ bytes_of (first_from capture.now start) }
 {
-    let Span { at, len } = locate(capture, start)?;
-    Some(&capture[at..at + len])
+    Finder { capture, start }.next()
+}
+
+// The finder: the frames of a capture from `start` on, one after the other, as parts of it.
+#[derive(Clone, Copy, Debug)]
+pub struct Finder<'a> {
+    pub capture: &'a [u8],
+    pub start: usize,
+}
+
+impl<'a> Finder<'a> {
+    // From the beginning.
+    pub fn new(capture: &'a [u8]) -> Finder<'a>
+        ensures capture { result.capture.now ≡ capture.now }
+        ensures start { result.start ≡ 0 }
+    {
+        Finder { capture, start: 0 }
+    }
+}
+
+impl<'a> Iterator for Finder<'a> {
+    type Item = &'a [u8];
+
+    ghost next_gives = { FindsNext };
+
+    ghost remaining = { item_count frames_left };
+
+    #[tactic(auto, using(crate::proofs::Frames::finds))]
+    fn next(&mut self) -> Option<&'a [u8]> {
+        let Span { at, len } = locate(self.capture, self.start)?;
+        let end = at + len;
+        self.start = end;
+        Some(&self.capture[at..end])
+    }
 }
 
 // How many frames a receiver hands over that is fed the capture.
+#[tactic(auto, using(crate::proofs::Frames::few_frames))]
 pub fn count_frames(capture: &[u8]) -> usize
     ensures { result ≡ length (frames_of capture.now) }
 {
-    let mut n = 0;
-    let mut start = 0;
-    while let Some(span) = locate(capture, start) {
-        n += 1;
-        start = span.at + span.len;
-    }
-    n
+    Finder::new(capture).count()
 }

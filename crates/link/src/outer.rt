@@ -1,11 +1,13 @@
 // The outer form of a frame: refusals 1 to 5 in order, or what kind of frame it is. Reading looks at nothing else before its layout.
-ghost use Rattle.std.specs.Prelude.{◌≡◌, true};
-ghost use Rattle.link.specs.Characters.{shaped as shaped_of};
-ghost use Rattle.link.specs.Outer.{marked, kind_of, strip_length, named, length_of, outer_of};
+ghost use Rattle.std.specs.Prelude.{◌≡◌};
+ghost use Rattle.link.specs.Outer.{kind_of, strip_length, named, length_of, outer_of};
 
-use crate::characters::shaped;
-use crate::control::{CONTROL_LENGTH, Control, SPE};
-use crate::settings::{IdLength, Procedure, Refusal, Settings, Why, offered};
+use crate::characters::Shaped;
+use crate::control::{CONTROL_LENGTH, Control};
+use crate::settings::{IdLength, Refusal, Settings, Why, offered};
+
+// The code of a result frame.
+const SPE: u8 = 0x3B;
 
 // What a result frame tells of: results, or colour and turbidity.
 #[derive(Clone, Copy, Debug, PartialEq, Eq)]
@@ -58,10 +60,10 @@ impl Outer {
     fn named(code: u8, byte: u8) -> Result<Outer, Refusal>
         ensures { result ≡ named code byte }
     {
-        if code == SPE {
-            return Ok(Outer::Strip(Kind::try_from(byte)?));
-        }
-        Ok(Outer::Control(Control::try_from(code)?))
+        Ok(match code {
+            SPE => Outer::Strip(byte.try_into()?),
+            _ => Outer::Control(code.try_into()?),
+        })
     }
 
     // L, by the ID length.
@@ -75,33 +77,20 @@ impl Outer {
     }
 }
 
-// Whether both test characters of a frame in shape are those due.
-fn marked(procedure: Procedure, frame: &[u8]) -> bool
-    requires { shaped_of frame.now ≡ true }
-    ensures { result ≡ marked procedure frame.now }
-{
-    let e = frame.len() - 3;
-    let due = procedure.pair(&frame[..e]);
-    frame[e] == due.first && frame[e + 1] == due.second
-}
-
 // Judges a lent frame: refusals 1 to 5, in this order, or its kind.
 pub fn outer_form(settings: Settings, frame: &[u8]) -> Result<Outer, Refusal>
     ensures { result ≡ outer_of settings frame.now }
 {
     let link = offered(settings)?;
-    if !shaped(frame) {
-        return Err(Why::Misshapen.into());
-    }
-    let n = frame.len();
-    if !marked(link.procedure, frame) {
+    let shape = Shaped::try_from(frame)?;
+    if shape.marks != link.procedure.pair(shape.front) {
         return Err(Refusal {
             why: Why::Untrue,
-            place: (n - 2) as u16,
+            place: (frame.len() - 2) as u16,
         });
     }
     let outer = Outer::named(frame[1], frame[2])?;
-    if n != outer.length(link.id) {
+    if frame.len() != outer.length(link.id) {
         return Err(Why::Mislength.into());
     }
     Ok(outer)

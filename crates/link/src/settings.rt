@@ -1,7 +1,10 @@
 // A link's settings, and refusals: why, and where.
-ghost use Rattle.std.specs.Prelude.{◌≡◌};
+ghost use Rattle.std.specs.Prelude.{◌≡◌, ◌++◌, Some, codes, decimal};
 ghost use Rattle.link.specs.Refusals.{number_of};
 ghost use Rattle.link.specs.Settings.{procedure_of, id_of, offered_of};
+
+use std::error::Error;
+use std::fmt;
 
 // Why something is refused, by the number of the rules' table.
 #[derive(Clone, Copy, Debug, PartialEq, Eq)]
@@ -29,12 +32,32 @@ impl From<Why> for u8 {
     }
 }
 
+// The table's number, in print.
+impl fmt::Display for Why {
+    ghost output = { λ why. Some (decimal (number_of why)) };
+
+    fn fmt<W: fmt::Write>(&self, f: &mut fmt::Formatter<W>) -> fmt::Result {
+        write!(f, "{}", u8::from(*self))
+    }
+}
+
 // A refusal: why, and a place counted from 1, or 0 where it has no single place.
 #[derive(Clone, Copy, Debug, PartialEq, Eq)]
 pub struct Refusal {
     pub why: Why,
     pub place: u16,
 }
+
+// As a text: the number and the place.
+impl fmt::Display for Refusal {
+    ghost output = { λ r. Some (codes "refused " ++ (decimal (number_of r.why) ++ (codes " at " ++ decimal r.place))) };
+
+    fn fmt<W: fmt::Write>(&self, f: &mut fmt::Formatter<W>) -> fmt::Result {
+        write!(f, "refused {} at {}", self.why, self.place)
+    }
+}
+
+impl Error for Refusal {}
 
 // Most refusals have no single place.
 impl From<Why> for Refusal {
@@ -52,15 +75,7 @@ pub struct Settings {
     pub id: u8,
 }
 
-pub const PROCEDURE_A: u8 = b'a';
-
-pub const PROCEDURE_B: u8 = b'b';
-
-pub const SHORT_ID: u8 = 10;
-
-pub const LONG_ID: u8 = 13;
-
-// The test procedures that are offered.
+// The test procedures that are offered, by their letters.
 #[derive(Clone, Copy, Debug, PartialEq, Eq)]
 pub enum Procedure {
     A,
@@ -74,14 +89,14 @@ impl TryFrom<u8> for Procedure {
 
     fn try_from(letter: u8) -> Result<Self, Refusal> {
         match letter {
-            PROCEDURE_A => Ok(Procedure::A),
-            PROCEDURE_B => Ok(Procedure::B),
+            b'a' => Ok(Procedure::A),
+            b'b' => Ok(Procedure::B),
             _ => Err(Why::NotOffered.into()),
         }
     }
 }
 
-// The lengths of an ID that are offered.
+// The lengths of an ID that are offered: 10 and 13.
 #[derive(Clone, Copy, Debug, PartialEq, Eq)]
 pub enum IdLength {
     Short,
@@ -95,8 +110,8 @@ impl TryFrom<u8> for IdLength {
 
     fn try_from(length: u8) -> Result<Self, Refusal> {
         match length {
-            SHORT_ID => Ok(IdLength::Short),
-            LONG_ID => Ok(IdLength::Long),
+            10 => Ok(IdLength::Short),
+            13 => Ok(IdLength::Long),
             _ => Err(Why::NotOffered.into()),
         }
     }
