@@ -14,7 +14,7 @@ fn show(rt: &impl Print, bytes: &[u8]) -> io::Result<()> {
     println!(rt; "")
 }
 
-// A control frame as it is written, or the number of its refusal.
+// A control frame as it is written, or the number of its refusal, for any two bytes.
 fn control(rt: &impl Print, procedure: u8, code: u8) -> io::Result<()> {
     let mut out = [0u8; CONTROL_LENGTH];
     let letter = char::from(procedure);

@@ -26,7 +26,6 @@ fn xor_of(bytes: &[u8]) -> u8
 }
 
 // The sum of all bytes, modulo 256.
-#[tactic(auto, using(crate::proofs::Laws::sum_wraps))]
 fn sum_of(bytes: &[u8]) -> u8
     ensures { result ≡ sum bytes.now % 256 }
 {
@@ -35,7 +34,7 @@ fn sum_of(bytes: &[u8]) -> u8
         .fold(0, |acc: u8, byte| acc.wrapping_add(*byte))
 }
 
-// A hexadecimal digit in capitals, of the low half-byte.
+// A hexadecimal digit in capitals, of the low half-byte. By hand: `char::from_digit` gives small letters, as a `char` in an Option.
 fn hex(n: u8) -> u8
     ensures { result ≡ hex_of (n % 16) }
 {
@@ -110,7 +109,7 @@ impl<'a> TryFrom<&'a [u8]> for Shaped<'a> {
     }
 }
 
-// The test characters due for a frame of L bytes, whatever stands in their place.
+// The test characters due for a frame of L bytes, whatever stands in their place. The procedure is a byte, since any other is refused 1.
 pub fn test_characters(procedure: u8, frame: &[u8]) -> Result<Pair, Refusal>
     ensures { result ≡ due_of procedure frame.now }
 {

@@ -56,7 +56,7 @@ impl Control {
     }
 }
 
-// Writes the control frame of a code to the first 6 bytes of `out`; the bytes past it stay.
+// Writes the control frame of a code to the first 6 bytes of `out`; the bytes past it stay. Procedure and code are bytes, since others are refused 1 and 4.
 pub fn control_frame(procedure: u8, code: u8, out: &mut [u8]) -> Result<(), Refusal>
     ensures { (result, out.new) ≡ control_outcome procedure code out.old }
 {

@@ -54,7 +54,7 @@ pub struct Fed {
     pub used: usize,
 }
 
-// The receiver: 255 bytes, of which it holds the first `count`. A count over 255 is refused, 11.
+// The receiver: 255 bytes, of which it holds the first `count`. A count over 255 is refused, 11. No `==`: what stands past the count means nothing.
 #[derive(Clone, Copy)]
 pub struct Receiver {
     pub held: [u8; HOLDS],
@@ -138,7 +138,7 @@ pub struct Span {
     pub len: usize,
 }
 
-// Where the first frame stands that a fresh receiver would hand over, fed from `start`.
+// Where the first frame stands that a fresh receiver would hand over, fed from `start`. A public call by these two; `Finder` has them together.
 #[tactic(auto, using(crate::proofs::Held::held_none))]
 pub fn locate(capture: &[u8], start: usize) -> Option<Span>
     ensures { result ≡ span_of (first_from capture.now start) }

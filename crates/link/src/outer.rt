@@ -56,7 +56,7 @@ pub enum Outer {
 }
 
 impl Outer {
-    // What byte 2, the code, and byte 3 say.
+    // What byte 2, the code, and byte 3 say, as they stand in the frame.
     fn named(code: u8, byte: u8) -> Result<Outer, Refusal>
         ensures { result ≡ named code byte }
     {

@@ -68,7 +68,7 @@ impl From<Why> for Refusal {
     }
 }
 
-// A link's settings as a caller has them: the test procedure's letter, and the length of an ID.
+// A link's settings as a caller has them: the test procedure's letter, and the length of an ID. They are bytes, since others are refused 1.
 #[derive(Clone, Copy, Debug, PartialEq, Eq)]
 pub struct Settings {
     pub procedure: u8,
