@@ -26,13 +26,10 @@ fn control(rt: &impl Print, procedure: u8, code: u8) -> io::Result<()> {
     }
 }
 
-// How many frames the first bytes of a run give.
-fn count(rt: &impl Print, run: &[u8], end: usize) -> io::Result<()> {
-    if let Some(run) = run.get(..end) {
-        let frames = count_frames(run);
-        println!(rt; "{end} bytes: frames {frames}")?;
-    }
-    Ok(())
+// How many frames a run of bytes gives.
+fn count(rt: &impl Print, run: &[u8]) -> io::Result<()> {
+    let frames = count_frames(run);
+    println!(rt; "{} bytes: frames {frames}", run.len())
 }
 
 // A run that a CR closes at 255 bytes, and one that it would close at 256.
@@ -40,10 +37,10 @@ fn long(rt: &impl Print) -> io::Result<()> {
     let mut run = [b'A'; 256];
     run[0] = STX;
     run[254] = CR;
-    count(rt, &run, 255)?;
+    count(rt, &run[..255])?;
     run[254] = b'A';
     run[255] = CR;
-    count(rt, &run, 256)
+    count(rt, &run)
 }
 
 fn main(rt: HostRuntime) -> io::Result<()> {
@@ -54,7 +51,7 @@ fn main(rt: HostRuntime) -> io::Result<()> {
     long(&rt)?;
     let noisy = *b"..\x02<\x02>\x033?\r..\x02:\x033;\r";
     for start in [0, 6, 16] {
-        show(&rt, find(&noisy, start).unwrap_or(&[]))?;
+        show(&rt, find(&noisy, start))?;
     }
     Ok(())
 }

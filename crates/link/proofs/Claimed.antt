@@ -74,7 +74,8 @@ module _ (all : List ℕ) where
       → ((r : Receiver) → fed_events (fed_of r (used + 1) bs) all ≡ events_from r bs)
       → (o : Answer × Receiver) → fed_events (fed_next o (used + 1) (λ r. fed_of r (used + 1) bs)) all ≡ listed o (λ r. events_from r bs)
   feed_next bs used e ih (Ok None, r) = ih r
-  feed_next bs used e ih (Ok (Some x), r) = rw e
+  feed_next bs used e ih (Ok (Some (Frame n)), r) = rw e
+  feed_next bs used e ih (Ok (Some Dropped), r) = rw e
   feed_next bs used e ih (Err x, r) = refl
 
   feed_all : (bs : List ℕ) (r : Receiver) (used : ℕ) → drop used all ≡ bs → fed_events (fed_of r used bs) all ≡ events_from r bs

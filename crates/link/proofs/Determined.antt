@@ -71,7 +71,7 @@ refusal_in-determined a = settled
 pub locate-determined : (s : List ℕ) (start : ℕ) {x y : Option Span} → x ≡ span_of (first_from s start) → y ≡ span_of (first_from s start) → x ≡ y
 locate-determined s start = settled
 
-pub find-determined : (s : List ℕ) (start : ℕ) {x y : Option (List ℕ)} → x ≡ bytes_of (first_from s start) → y ≡ bytes_of (first_from s start) → x ≡ y
+pub find-determined : (s : List ℕ) (start : ℕ) {x y : List ℕ} → x ≡ bytes_of (first_from s start) → y ≡ bytes_of (first_from s start) → x ≡ y
 find-determined s start = settled
 
 pub count_frames-determined : (s : List ℕ) {x y : ℕ} → x ≡ length (frames_of s) → y ≡ length (frames_of s) → x ≡ y

@@ -5,7 +5,7 @@ use Rattle.std.proofs.Common.{Bor}
 use Rattle.std.proofs.lemmas.Iterator.{YieldsList}
 use Rattle.std.proofs.lemmas.Iterator.Consumers.{YieldsList-from_shown}
 use Rattle.std.specs.Prelude.{Option, Some, None, Ok, Err, slice_range}
-use Rattle.link.specs.Cut.{Answer, act_of, holding, done, receive_of, onward, handed_from, first_from, fresh, Handed, none, after, span_of, bytes_of, listed, Event, loss, events_from, frames_in, frames_of, frames_left, past, FindsNext}
+use Rattle.link.specs.Cut.{Answer, act_of, holding, done, receive_of, onward, handed_from, first_from, fresh, Handed, none, after, span_of, frame_of, listed, Event, loss, events_from, frames_in, frames_of, frames_left, past, FindsNext}
 use Rattle.link.specs.Framed.{Sound, After}
 use Rattle.link.specs.declared.cut.Receiver.{Receiver}
 use Rattle.link.specs.declared.cut.Span.{Span}
@@ -111,8 +111,8 @@ few_from : (bs : List ℕ) (r : Receiver) → length (frames_from r bs) ≤ leng
 few_from [] r = omega arith
 few_from (b ∷ bs) r = omega (arith, few_next bs (λ q. few_from bs q) (receive_of r b))
 
-pub few_frames : (s : List ℕ) → length (frames_of s) ≤ length s
-few_frames s = few_from s fresh
+pub few_frames : (s : List ℕ) (start : ℕ) → length (frames_of (drop start s)) ≤ length s
+few_frames s start = omega (arith, few_from (drop start s) fresh, length-drop start s)
 
 -- of what the finder hands over: none, and none is to come; or a frame, and then those past it
 abbrev pub Rest : List ℕ → ℕ → Handed → Type 0
@@ -132,7 +132,7 @@ rest_from s start = rest_told s start (first_from s start) (first_told s start)
 -- the part of the capture that the finder gives
 pub record Part (s : List ℕ) (start : ℕ) (r : Span) : Type 0 where
   pub inside : r.at + r.len ≤ length s
-  pub bytes : bytes_of (first_from s start) ≡ Some (slice_range s r.at (r.at + r.len))
+  pub bytes : frame_of (first_from s start) ≡ Some (slice_range s r.at (r.at + r.len))
   pub onto : r.at + r.len ≡ past (first_from s start) start
   pub fewer : length (frames_of (drop (r.at + r.len) s)) < length (frames_of (drop start s))
 
@@ -165,7 +165,7 @@ module _ (s : List ℕ) (start : ℕ) where
   pub found_inside : (r : Span) → Some r ≡ span_of (first_from s start) → r.at + r.len ≤ length s
   found_inside r e = (found (Some r) e).inside
 
-  pub found_bytes : (r : Span) → Some r ≡ span_of (first_from s start) → bytes_of (first_from s start) ≡ Some (slice_range s r.at (r.at + r.len))
+  pub found_bytes : (r : Span) → Some r ≡ span_of (first_from s start) → frame_of (first_from s start) ≡ Some (slice_range s r.at (r.at + r.len))
   found_bytes r e = (found (Some r) e).bytes
 
   pub found_onto : (r : Span) → Some r ≡ span_of (first_from s start) → r.at + r.len ≡ past (first_from s start) start
@@ -180,11 +180,11 @@ module _ (s : List ℕ) (start : ℕ) where
 pub ruleset finds = (found_inside, found_bytes, found_onto, found_fewer, found_none)
 
 -- what a finder has left is what it gives, one after the other
-shown_none : (s : List ℕ) (start : ℕ) (x : Handed) → Rest s start x → None ≡ bytes_of x → length (frames_of (drop start s)) ≡ 0
+shown_none : (s : List ℕ) (start : ℕ) (x : Handed) → Rest s start x → None ≡ frame_of x → length (frames_of (drop start s)) ≡ 0
 shown_none s start none t e = ap length t
 shown_none s start (after n f) t e = cc
 
-shown_some : (s : List ℕ) (start : ℕ) (x : Handed) (f : List ℕ) → Rest s start x → Some f ≡ bytes_of x → frames_of (drop start s) ≡ f ∷ frames_of (drop (past x start) s)
+shown_some : (s : List ℕ) (start : ℕ) (x : Handed) (f : List ℕ) → Rest s start x → Some f ≡ frame_of x → frames_of (drop start s) ≡ f ∷ frames_of (drop (past x start) s)
 shown_some s start none f t e = cc
 shown_some s start (after n g) f t e = let p : g ≡ f = cc in t.1 ∙ rw p refl
 

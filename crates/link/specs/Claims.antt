@@ -5,7 +5,7 @@ use Rattle.link.specs.Settings.{settings_offered}
 use Rattle.link.specs.Characters.{shaped}
 use Rattle.link.specs.Control.{END, SPM, MOR, control_code, control_length, control_outcome}
 use Rattle.link.specs.Outer.{marked, outer_of}
-use Rattle.link.specs.Cut.{holds, Handed, none, after, handed_from, first_from, Event, event_of, events_from, frames_of, fed_of}
+use Rattle.link.specs.Cut.{holds, Handed, none, after, handed_from, first_from, Event, frame, loss, events_from, frames_of, fed_of}
 use Rattle.link.specs.Framed.{Framed, AllFramed}
 use Rattle.link.specs.declared.settings.Refusal.{Refusal}
 use Rattle.link.specs.declared.settings.Settings.{Settings}
@@ -13,6 +13,8 @@ use Rattle.link.specs.declared.settings.Procedure.TheVariants.{A, B}
 use Rattle.link.specs.declared.control.Control.{Control}
 use Rattle.link.specs.declared.control.Control.TheVariants.{End, Spm, More, Repeat}
 use Rattle.link.specs.declared.outer.Outer.TheVariants.{Control as is_control}
+use Rattle.link.specs.declared.cut.Received.{Received}
+use Rattle.link.specs.declared.cut.Received.TheVariants.{Frame, Dropped}
 use Rattle.link.specs.declared.cut.Fed.{Fed}
 use Rattle.link.specs.declared.cut.Receiver.{Receiver}
 
@@ -38,10 +40,15 @@ met (suc k) capture start = met_next (first_from capture start) (λ e. met k cap
 abbrev pub FinderFollows : Type 0
 FinderFollows = (capture : List ℕ) → met (length capture) capture 0 ≡ frames_of capture
 
+-- an event of a run of bytes, and those of the bytes that it did not use
+abbrev pub event_then : Received → ℕ → Receiver → List ℕ → List Event
+event_then (Frame n) used r bytes = frame (take n r.held) ∷ events_from r (drop used bytes)
+event_then Dropped used r bytes = loss ∷ events_from r (drop used bytes)
+
 -- what a run of bytes gives that is fed up to its first event, and then the bytes after it
 abbrev pub fed_events : Result (Option Fed) Refusal × Receiver → List ℕ → List Event
 fed_events (Ok None, r) bytes = []
-fed_events (Ok (Some x), r) bytes = event_of x.received r ∷ events_from r (drop x.used bytes)
+fed_events (Ok (Some x), r) bytes = event_then x.received x.used r bytes
 fed_events (Err e, r) bytes = []
 
 -- fed so, again and again, a receiver meets exactly its events

@@ -89,9 +89,13 @@ abbrev pub span_of : Handed → Option Span
 span_of none = None
 span_of (after e f) = Some (record { at = e - length f; len = length f })
 
-abbrev pub bytes_of : Handed → Option (List ℕ)
-bytes_of none = None
-bytes_of (after e f) = Some f
+abbrev pub bytes_of : Handed → List ℕ
+bytes_of none = []
+bytes_of (after e f) = f
+
+abbrev pub frame_of : Handed → Option (List ℕ)
+frame_of none = None
+frame_of (after e f) = Some f
 
 -- where the finder goes on: past the frame, or nowhere else
 abbrev pub past : Handed → ℕ → ℕ
@@ -101,7 +105,7 @@ past (after e f) start = e
 -- the finder's next frame, as a part of the capture, and the finder past it
 abbrev pub FindsNext : Finder → Option (Bor (List ℕ)) → Finder → Type 0
 FindsNext s r t =
-    (option_copied r ≡ bytes_of (first_from s.capture.now s.start))
+    (option_copied r ≡ frame_of (first_from s.capture.now s.start))
     × (t.capture.now ≡ s.capture.now)
     × (t.start ≡ past (first_from s.capture.now s.start) s.start)
 

@@ -46,8 +46,8 @@ impl From<Control> for u8 {
 }
 
 impl Control {
-    // The whole frame.
-    fn frame(self, procedure: Procedure) -> [u8; CONTROL_LENGTH]
+    // The whole frame, of 6 bytes.
+    fn frame(self, procedure: Procedure) -> [u8; 6]
         ensures { result ≡ control_frame procedure self }
     {
         let code = u8::from(self);

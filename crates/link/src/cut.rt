@@ -1,7 +1,7 @@
 // Cutting bytes into frames: the receiver, one byte at a time, and the finder, over a capture.
 //
 // Outside a frame all but STX is dropped; STX always begins anew; CR closes. One decision, `judge`, serves receiver and finder.
-ghost use Rattle.std.specs.Prelude.{◌≡◌, length, option_copied};
+ghost use Rattle.std.specs.Prelude.{◌≡◌, drop, length};
 ghost use Rattle.std.specs.Iterator.{item_count};
 ghost use Rattle.link.specs.Cut.{fresh, act_of, receive_of, refusal_in, first_from, span_of, bytes_of, FindsNext, frames_of, frames_left, fed_of};
 
@@ -54,7 +54,8 @@ pub struct Fed {
     pub used: usize,
 }
 
-// The receiver: 255 bytes, of which it holds the first `count`. A count over 255 is refused, 11. No `==`: what stands past the count means nothing.
+// The receiver: 255 bytes, of which it holds the first `count`. A count over 255 is refused 11, so it is a number and no list's length.
+// It has no `==`, since what stands past the count means nothing.
 #[derive(Clone, Copy)]
 pub struct Receiver {
     pub held: [u8; HOLDS],
@@ -138,7 +139,7 @@ pub struct Span {
     pub len: usize,
 }
 
-// Where the first frame stands that a fresh receiver would hand over, fed from `start`. A public call by these two; `Finder` has them together.
+// Where the first frame stands that a fresh receiver would hand over, fed from `start`. By places and not by items, since the answer is a place.
 #[tactic(auto, using(crate::proofs::Held::held_none))]
 pub fn locate(capture: &[u8], start: usize) -> Option<Span>
     ensures { result ≡ span_of (first_from capture.now start) }
@@ -161,15 +162,15 @@ pub fn locate(capture: &[u8], start: usize) -> Option<Span>
     None
 }
 
-// The first frame itself, as a part of the capture.
-pub fn find(capture: &[u8], start: usize) -> Option<&[u8]>
-    ensures { option_copied result ≡ bytes_of (first_from capture.now start) }
+// The first frame itself, as a part of the capture: an empty one where there is none, as the rules have it. For one frame after the other, `Finder`.
+pub fn find(capture: &[u8], start: usize) -> &[u8]
+    ensures { result.now ≡ bytes_of (first_from capture.now start) }
 {
-    Finder { capture, start }.next()
+    Finder { capture, start }.next().unwrap_or(&[])
 }
 
 // The finder: the frames of a capture from `start` on, one after the other, as parts of it.
-#[derive(Clone, Copy, Debug)]
+#[derive(Clone, Copy, Debug, PartialEq, Eq)]
 pub struct Finder<'a> {
     pub capture: &'a [u8],
     pub start: usize,
@@ -201,10 +202,17 @@ impl<'a> Iterator for Finder<'a> {
     }
 }
 
-// How many frames a receiver hands over that is fed the capture.
+// How many frames there are from `start` on.
 #[tactic(auto, using(crate::proofs::Frames::few_frames))]
+fn frames_after(capture: &[u8], start: usize) -> usize
+    ensures { result ≡ length (frames_of (drop start capture.now)) }
+{
+    Finder { capture, start }.count()
+}
+
+// How many frames a receiver hands over that is fed the capture.
 pub fn count_frames(capture: &[u8]) -> usize
     ensures { result ≡ length (frames_of capture.now) }
 {
-    Finder::new(capture).count()
+    frames_after(capture, 0)
 }

@@ -96,7 +96,7 @@ impl TryFrom<u8> for Procedure {
     }
 }
 
-// The lengths of an ID that are offered: 10 and 13.
+// The lengths of an ID that are offered: 10 and 13. Read as `Procedure` is, from other bytes to another enum.
 #[derive(Clone, Copy, Debug, PartialEq, Eq)]
 pub enum IdLength {
     Short,
@@ -124,7 +124,7 @@ pub struct Link {
     pub id: IdLength,
 }
 
-// The settings, if a link can have them: refusal 1 if not.
+// The settings, if a link can have them: refusal 1 if not. A public call of this name, so no TryFrom.
 pub fn offered(settings: Settings) -> Result<Link, Refusal>
     ensures { result ≡ offered_of settings }
 {

@@ -1,3 +1,3 @@
--- What every other crate's definitions are written in.
+-- Texts, and what every kind of field owes.
 pub mod Text
 pub mod Inverse

@@ -25,7 +25,7 @@ pub fn agree(word: &[u8], part: &[u8]) -> usize
 pub fn digit_of(c: u8) -> u16
     ensures { result ≡ digit_of c }
 {
-    (c as u16 + 2) % 10
+    (u16::from(c) + 2) % 10
 }
 
 // Lays all of word over the bytes of out from offset at on; where they are not all there, out stays as it was.
