@@ -1,8 +1,8 @@
 -- The crate's theorems, from the laws of the receiver, of closed frames and of test characters.
 -- Assumes nothing.
-use Rattle.std.proofs.Common.{◌≡◌, ℕ, zero, suc, ◌+◌, ◌-◌, ◌%◌, ◌<◌, ◌≤◌, Bool, true, false, eqb, ltb, List, [], ◌∷◌, ◌++◌, length, get_or, take, drop, sym, refl, ap, ◌∙◌, subst, zero-add, arith, drop_of_length-le, length-take-le, take_all, get_or-take, take-suc, drop-drop, ltb-false, le-ltb, eqb-true, if◌then◌else◌}
+use Rattle.std.proofs.Common.{◌≡◌, ℕ, zero, suc, ◌+◌, ◌-◌, ◌%◌, ◌<◌, ◌≤◌, Bool, true, false, eqb, ltb, List, [], ◌∷◌, ◌++◌, length, get_or, take, drop, set, sym, refl, ap, ◌∙◌, subst, zero-add, arith, drop_of_length-le, length-take-le, take_all, get_or-take, take-suc, drop-drop, length-drop, ltb-false, le-ltb, eqb-true, if◌then◌else◌}
 use lib.Bits.{bit_xor, bit_or, xor_add_and, or_shifted_r}
-use Rattle.std.specs.Prelude.{Some, None, Result, Ok, Err, is_ok}
+use Rattle.std.specs.Prelude.{Option, Some, None, Result, Ok, Err, is_ok, slice_range}
 use Rattle.std.specs.List.{fold, sum}
 use Rattle.std.proofs.lemmas.List.Sums.{sum_by-cons, sum_by_push}
 use Rattle.link.specs.Refusals.{refused, and_then}
@@ -10,9 +10,9 @@ use Rattle.link.specs.Settings.{settings_offered, offered_of, procedure_of, id_o
 use Rattle.link.specs.Characters.{STX, ETX, xor_of, hex_of, pair_of, shaped}
 use Rattle.link.specs.Control.{END, SPM, MOR, REP, code_of, control_of, control_code, control_length, control_frame, control_outcome}
 use Rattle.link.specs.Outer.{marked, named, sized, outer_of}
-use Rattle.link.specs.Cut.{Answer, receive_of, first_from, fresh, Handed, none, after, listed, events_from, frames_in, fed_next, fed_of}
-use Rattle.link.specs.Framed.{Sound, After, AllFramed}
-use Rattle.link.specs.Claims.{HandsOverFrames, Delivers, met_next, met, FinderFollows, fed_events, FeedFollows, control_outer, ControlPasses, OneProcedure}
+use Rattle.link.specs.Cut.{Answer, act_of, holding, loss, receive_of, first_from, fresh, Handed, none, after, listed, events_from, frames_in, fed_next, fed_of}
+use Rattle.link.specs.Framed.{Plain, Framed, Sound, After, AllFramed}
+use Rattle.link.specs.Claims.{HandsOverFrames, Delivers, DeliversAlone, LosesAt255, HandsOverParts, met_next, met, FinderFollows, fed_events, FeedFollows, FeedGoesOn, FeedUses, control_outer, ControlPasses, ControlFramed, OneProcedure}
 use Rattle.link.specs.declared.settings.Why.TheVariants.{Unknown}
 use Rattle.link.specs.declared.settings.Refusal.{Refusal}
 use Rattle.link.specs.declared.settings.Settings.{Settings}
@@ -22,13 +22,16 @@ use Rattle.link.specs.declared.settings.Procedure.TheVariants.{A, B}
 use Rattle.link.specs.declared.settings.IdLength.{IdLength}
 use Rattle.link.specs.declared.control.Control.{Control}
 use Rattle.link.specs.declared.control.Control.TheVariants.{End, Spm, More, Repeat}
-use Rattle.link.specs.declared.outer.Outer.TheVariants.{Control as is_control}
+use Rattle.link.specs.declared.outer.Outer.TheVariants.{Control as OuterControl}
+use Rattle.link.specs.declared.cut.Fed.{Fed}
 use Rattle.link.specs.declared.cut.Receiver.{Receiver}
 use Rattle.link.specs.declared.cut.Received.TheVariants.{Frame, Dropped}
 use Rattle.link.proofs.Shapes.{shaped_is, both_true}
 use Rattle.link.proofs.Framed.{received, sound_fresh}
 use Rattle.link.proofs.Frames.{frames_from, Told, first_told}
-use Rattle.link.proofs.Delivers.{delivers}
+use Rattle.link.proofs.Held.{Ended, nothing, closing, ended, held_close}
+use Rattle.link.proofs.Delivers.{delivers, delivers_alone}
+use Rattle.link.proofs.Closed.{control_framed}
 use Rattle.link.proofs.Whole.{closed_shaped, closed_marked}
 
 -- ---- only frames are handed over
@@ -50,6 +53,41 @@ hands_over_frames bytes = events_framed bytes fresh sound_fresh
 pub delivered : Delivers
 delivered f more r F long few = delivers f more F r 0 long few ∙ ap (λ (e : ℕ). after e f) (zero-add (length f))
 
+pub delivered_alone : DeliversAlone
+delivered_alone f more r F long few = delivers_alone f more F r long few
+
+-- ---- 255 bytes held
+lost : (held more : List ℕ) (b : ℕ) (t : Bool) → eqb b STX ≡ t
+    → listed (receive_of (holding held 255) b) (λ r. events_from r more)
+    ≡ (if t then events_from (holding (set held 0 b) 1) more else loss ∷ events_from (holding held 0) more)
+lost held more b true e = rw e refl
+lost held more b false e = rw e refl
+
+pub loses_at_255 : LosesAt255
+loses_at_255 held more b = lost held more b (eqb b STX) refl
+
+-- ---- what is handed over is a part of the capture
+none_not_after : (e : ℕ) (f : List ℕ) → none ≡ after e f → ⊥
+none_not_after e f h = let z : ◌≡◌ {A = ℕ} 0 1 = cc in omega arith
+
+after_is : (d e : ℕ) (g f : List ℕ) → after d g ≡ after e f → (d ≡ e) × (g ≡ f)
+after_is d e g f h = (cc, cc)
+
+part_of : (s : List ℕ) (start e : ℕ) (f : List ℕ) → Ended s start → first_from s start ≡ after e f
+    → (start + length f ≤ e) × (e ≤ length s) × (slice_range s (e - length f) e ≡ f)
+part_of s start e f (nothing z) q = absurd (none_not_after e f (sym z ∙ q))
+part_of s start e f (closing n at l H c) q =
+    let g = take (n + 1) (drop (at - n) s) in
+    let k : length g ≡ n + 1 = length-take-le (n + 1) (drop (at - n) s) (simp length-drop (omega (arith, H.within))) in
+    let h : after (at + 1) g ≡ after e f = sym (held_close s start n at l H (act_of n (get_or s at 0)) refl c) ∙ q in
+    let (pe, pf) = after_is (at + 1) e g f h in
+    let i : at + 1 - (n + 1) ≡ at - n = omega arith in
+    let j : at + 1 - (at - n) ≡ n + 1 = omega (arith, H.within) in
+    rw (← pe, ← pf, k, i, j) (omega (arith, H.within), omega arith, refl)
+
+pub hands_over_parts : HandsOverParts
+hands_over_parts s start e f q = part_of s start e f (ended s start) q
+
 -- ---- the finder, started again after each frame
 met_next_told : (k : ℕ) (s : List ℕ) (start : ℕ) (L : List (List ℕ)) (x : Handed) → Told L start (drop start s) x
     → ((e : ℕ) → start < e → met k s e ≡ frames_from fresh (drop e s)) → met_next x (λ e. met k s e) ≡ L
@@ -66,7 +104,7 @@ met_all (suc k) s start h =
     met_next_told k s start (frames_from fresh (drop start s)) (first_from s start) (first_told s start) (λ e far. met_all k s e (omega arith))
 
 pub finder_follows : FinderFollows
-finder_follows capture = met_all (length capture) capture 0 (omega arith)
+finder_follows capture start = met_all (length capture) capture start (omega arith)
 
 -- ---- a run fed up to its first event
 module _ (all : List ℕ) where
@@ -86,6 +124,48 @@ module _ (all : List ℕ) where
 
 pub feed_follows : FeedFollows
 feed_follows r bytes = feed_all bytes bytes r 0 refl
+
+-- ---- a run used up, and what an event uses
+-- which of the three answers, and the bytes used
+abbrev kind : Result (Option Fed) Refusal × Receiver → ℕ
+kind (Ok None, r) = 0
+kind (Ok (Some x), r) = 1
+kind (Err e, r) = 2
+
+abbrev used_in : Result (Option Fed) Refusal × Receiver → ℕ
+used_in (Ok None, r) = 0
+used_in (Ok (Some x), r) = x.used
+used_in (Err e, r) = 0
+
+module _ (more : List ℕ) (q : Receiver) where
+  goes_next : (bs : List ℕ) (used : ℕ) → ((r : Receiver) → fed_of r used bs ≡ (Ok None, q) → events_from r (bs ++ more) ≡ events_from q more)
+      → (o : Answer × Receiver) → fed_next o used (λ r. fed_of r used bs) ≡ (Ok None, q) → listed o (λ r. events_from r (bs ++ more)) ≡ events_from q more
+  goes_next bs used ih (Ok None, r) e = ih r e
+  goes_next bs used ih (Ok (Some x), r) e = let z : ◌≡◌ {A = ℕ} 1 0 = ap kind e in absurd (omega arith)
+  goes_next bs used ih (Err x, r) e = let z : ◌≡◌ {A = ℕ} 2 0 = ap kind e in absurd (omega arith)
+
+  goes_on : (bs : List ℕ) (r : Receiver) (used : ℕ) → fed_of r used bs ≡ (Ok None, q) → events_from r (bs ++ more) ≡ events_from q more
+  goes_on [] r used e = ap (λ (o : Result (Option Fed) Refusal × Receiver). events_from o.1 more) e
+  goes_on (b ∷ bs) r used e = goes_next bs (used + 1) (λ p. goes_on bs p (used + 1)) (receive_of r b) e
+
+pub feed_goes_on : FeedGoesOn
+feed_goes_on r q bytes more e = goes_on more q bytes r 0 e
+
+module _ (q : Receiver) (x : Fed) where
+  uses_next : (bs : List ℕ) (used : ℕ) → ((r : Receiver) → fed_of r (used + 1) bs ≡ (Ok (Some x), q) → (used + 1 < x.used) × (x.used ≤ used + 1 + length bs))
+      → (o : Answer × Receiver) → fed_next o (used + 1) (λ r. fed_of r (used + 1) bs) ≡ (Ok (Some x), q) → (used < x.used) × (x.used ≤ used + suc (length bs))
+  uses_next bs used ih (Ok None, r) e = let (l, h) = ih r e in (omega arith, omega arith)
+  uses_next bs used ih (Ok (Some y), r) e =
+      let p : used + 1 ≡ x.used = ap used_in e in
+      (omega arith, omega arith)
+  uses_next bs used ih (Err y, r) e = let z : ◌≡◌ {A = ℕ} 2 1 = ap kind e in absurd (omega arith)
+
+  uses : (bs : List ℕ) (r : Receiver) (used : ℕ) → fed_of r used bs ≡ (Ok (Some x), q) → (used < x.used) × (x.used ≤ used + length bs)
+  uses [] r used e = let z : ◌≡◌ {A = ℕ} 0 1 = ap kind e in absurd (omega arith)
+  uses (b ∷ bs) r used e = uses_next bs used (λ p. uses bs p (used + 1)) (receive_of r b) e
+
+pub feed_uses : FeedUses
+feed_uses r q bytes x e = let (l, h) = uses q x bytes r 0 e in (l, omega arith)
 
 -- ---- a control frame passes
 no : false ≡ true → ⊥
@@ -132,7 +212,7 @@ coded Spm = refl
 coded More = refl
 coded Repeat = refl
 
-judged : (c : Control) (l : IdLength) → and_then (named (code_of c) ETX) (sized l 6) ≡ Ok (is_control (control_outer (code_of c)))
+judged : (c : Control) (l : IdLength) → and_then (named (code_of c) ETX) (sized l 6) ≡ Ok (OuterControl (control_outer (code_of c)))
 judged End l = refl
 judged Spm l = refl
 judged More l = refl
@@ -144,7 +224,7 @@ pub passes : (s : Settings) (link : Link) (f : List ℕ) → offered_of s ≡ Ok
 passes s link f o h m = rw (o, h, m)
 
 passes_coded : (s : Settings) (c : Control) (out : List ℕ) → settings_offered s ≡ true → control_length ≤ length out
-    → outer_of s (take control_length (control_outcome s.procedure (code_of c) out).1) ≡ Ok (is_control (control_outer (code_of c)))
+    → outer_of s (take control_length (control_outcome s.procedure (code_of c) out).1) ≡ Ok (OuterControl (control_outer (code_of c)))
 passes_coded s c out o room =
     let (link, known, procedure) = linked s o in
     let p = link.procedure in
@@ -157,7 +237,26 @@ passes_coded s c out o room =
 pub control_passes : ControlPasses
 control_passes s code out o k room =
     let (c, e) = which code k in
-    subst (λ (x : ℕ). outer_of s (take control_length (control_outcome s.procedure x out).1) ≡ Ok (is_control (control_outer x))) (sym e) (passes_coded s c out o room)
+    subst (λ (x : ℕ). outer_of s (take control_length (control_outcome s.procedure x out).1) ≡ Ok (OuterControl (control_outer x))) (sym e) (passes_coded s c out o room)
+
+-- and is a frame so formed
+plain_code : (c : Control) → Plain (code_of c)
+plain_code End = (omega arith, omega arith)
+plain_code Spm = (omega arith, omega arith)
+plain_code More = (omega arith, omega arith)
+plain_code Repeat = (omega arith, omega arith)
+
+framed_coded : (s : Settings) (c : Control) (out : List ℕ) → settings_offered s ≡ true → control_length ≤ length out
+    → Framed (take control_length (control_outcome s.procedure (code_of c) out).1)
+framed_coded s c out o room =
+    let (link, known, procedure) = linked s o in
+    let written : take 6 (control_outcome s.procedure (code_of c) out).1 ≡ control_frame link.procedure c = rw (procedure, coded c, le-ltb (length out) 6 room) in
+    subst Framed (sym written) (control_framed link.procedure (code_of c) (plain_code c))
+
+pub control_is_framed : ControlFramed
+control_is_framed s code out o k room =
+    let (c, e) = which code k in
+    subst (λ (x : ℕ). Framed (take control_length (control_outcome s.procedure x out).1)) (sym e) (framed_coded s c out o room)
 
 -- ---- no test characters fit both procedures: the lowest bits of XOR and sum are equal, those of STX and ETX are not
 xor_parity : (a : ℕ) (bs : List ℕ) → fold bit_xor a bs % 2 ≡ (a + sum bs) % 2

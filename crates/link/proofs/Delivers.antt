@@ -1,8 +1,8 @@
 -- A frame goes through: whatever a receiver holds, it hands over exactly the frame that it is fed, at its last byte.
 -- Assumes nothing.
-use Rattle.std.proofs.Common.{◌≡◌, ℕ, zero, suc, ◌+◌, ◌-◌, ◌<◌, ◌≤◌, List, ◌++◌, length, get_or, take, drop, set, refl, ap, ◌∙◌, add-one, arith, length-set, take_all, take-suc, take-suc-set, eq-eqb, ne_eqb}
+use Rattle.std.proofs.Common.{◌≡◌, ℕ, zero, suc, ◌+◌, ◌-◌, ◌<◌, ◌≤◌, List, [], ◌∷◌, ◌++◌, length, get_or, take, drop, set, refl, ap, ◌∙◌, add-one, arith, length-set, drop_of_length-le, take_all, take-suc, take-suc-set, eq-eqb, ne_eqb}
 use Rattle.link.specs.Characters.{STX, CR}
-use Rattle.link.specs.Cut.{Answer, act_of, holding, done, onward, handed_from, after}
+use Rattle.link.specs.Cut.{Answer, act_of, holding, done, onward, handed_from, after, listed, frame, events_from}
 use Rattle.link.specs.Framed.{Plain, Framed}
 use Rattle.link.specs.declared.cut.Receiver.{Receiver}
 use Rattle.link.specs.declared.cut.Act.{Act}
@@ -58,3 +58,36 @@ module _ (f more : List ℕ) (F : Framed f) where
       ∙ carry (length f - 2) 1 (at + 1) (set r.held 0 b) (omega (arith, F.least)) (omega arith)
       (length-set r.held 0 b ∙ long) (grown 0 r.held long h refl)
       ∙ ap (λ (x : ℕ). after x f) z
+
+  -- the same byte, told by events
+  told : (k : ℕ) (held : List ℕ) (n : ℕ) (a : Act) → k < length f → n ≤ 255 → act_of n (get_or f k 0) ≡ a
+      → events_from (holding held n) (drop k f ++ more) ≡ listed (done a (holding held n) (get_or f k 0)) (λ r. events_from r (drop (k + 1) f ++ more))
+  told k held n a l few e =
+      rw (rest f k l) (ap (λ (x : Answer × Receiver). listed x (λ r. events_from r (drop (k + 1) f ++ more))) (taken held n (get_or f k 0) few a e))
+
+  carry_told : (m k : ℕ) (held : List ℕ) → k + suc m ≡ length f → 0 < k → length held ≡ 255 → take k held ≡ take k f
+      → (q : Receiver) × (length q.held ≡ 255) × (q.count ≡ 0) × (events_from (holding held k) (drop k f ++ more) ≡ frame f ∷ events_from q more)
+  carry_told zero k held q p l e =
+      let h : k < length f = omega arith in
+      let z : length f - 1 ≡ k = omega arith in
+      let b = get_or f k 0 in
+      let whole : take (k + 1) (set held k b) ≡ f = grown k held l h e ∙ take_all (k + 1) f (omega arith) in
+      let past : drop (k + 1) f ≡ [] = drop_of_length-le f (omega arith) in (
+        holding (set held k b) 0,
+        length-set held k b ∙ l,
+        refl,
+        told k held k Close h (omega (arith, F.most)) (act_close k b p (omega (arith, F.most)) (rw z at F.closes)) ∙ rw (whole, past) refl,
+      )
+  carry_told (suc m) k held q p l e =
+      let h : k < length f = omega arith in
+      let b = get_or f k 0 in
+      let (r, long, none_held, rests) = carry_told m (k + 1) (set held k b) (omega arith) (omega arith) (length-set held k b ∙ l) (grown k held l h e) in
+      (r, long, none_held, told k held k Keep h (omega (arith, F.most)) (act_keep k b p (omega (arith, F.most)) (F.inner k p (omega arith))) ∙ rests)
+
+  pub delivers_alone : (r : Receiver) → length r.held ≡ 255 → r.count ≤ 255
+      → (q : Receiver) × (length q.held ≡ 255) × (q.count ≡ 0) × (events_from r (f ++ more) ≡ frame f ∷ events_from q more)
+  delivers_alone r long few =
+      let h : 0 < length f = omega (arith, F.least) in
+      let b = get_or f 0 0 in
+      let (q, l, z, e) = carry_told (length f - 2) 1 (set r.held 0 b) (omega (arith, F.least)) (omega arith) (length-set r.held 0 b ∙ long) (grown 0 r.held long h refl) in
+      (q, l, z, told 0 r.held r.count Begin h few (act_begin r.count b F.opens) ∙ e)

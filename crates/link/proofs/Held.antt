@@ -12,7 +12,7 @@ pub record Held (s : List ℕ) (start n at : ℕ) : Type 0 where
   pub held : List ℕ
   pub long : length held ≡ 255
   pub few : n ≤ 255
-  pub within : n ≤ at
+  pub within : start + n ≤ at
   pub same : take n held ≡ take n (drop (at - n) s)
   pub run : handed_from (holding held n) at (drop at s) ≡ first_from s start
 
@@ -83,7 +83,7 @@ module _ (s : List ℕ) (start : ℕ) where
           long = length-set H.held n b ∙ H.long;
           few = omega arith;
           within = omega arith;
-          same = rw p (grow H.held s n at H.within l (omega (arith, H.long)) H.same);
+          same = rw p (grow H.held s n at (omega (arith, H.within)) l (omega (arith, H.long)) H.same);
           run = fed Keep e;
         }
 
@@ -94,7 +94,7 @@ module _ (s : List ℕ) (start : ℕ) where
     pub held_close : act ≡ Close → first_from s start ≡ after (at + 1) (take (n + 1) (drop (at - n) s))
     held_close e =
         let k = does Close e in
-        sym (fed Close e) ∙ ap (after (at + 1)) (grow H.held s n at H.within l (omega (arith, H.long)) H.same)
+        sym (fed Close e) ∙ ap (after (at + 1)) (grow H.held s n at (omega (arith, H.within)) l (omega (arith, H.long)) H.same)
 
   pub held_end : (n at : ℕ) → length s ≤ at → Held s start n at → first_from s start ≡ none
   held_end n at l H = sym H.run ∙ rw (drop_of_length-le s l)

@@ -40,7 +40,7 @@ abbrev pub pair_of : Procedure → List ℕ → Pair
 pair_of A front = pair_a front
 pair_of B front = pair_b (take (length front - 2) (drop 1 front))
 
--- the shape of a frame: 6 to 255 bytes, with STX first, ETX at L−3 and CR last
+-- the shape of a frame as whoever reads it judges it, where the receiver cuts from 2 bytes on: 6 to 255 bytes, with STX first, ETX at L−3 and CR last
 abbrev pub shaped : List ℕ → Bool
 shaped f =
     let L = length f in
@@ -59,7 +59,7 @@ abbrev pub IsShaped : List ℕ → Result Shaped Refusal → Type 0
 IsShaped f (Ok p) = (shaped f ≡ true) × (p.front.now ≡ take (length f - 3) f) × (p.marks ≡ marks_of f)
 IsShaped f (Err e) = (shaped f ≡ false) × (e ≡ record { why = Misshapen; place = 0 })
 
--- the test characters due for a frame: refusals 1 and 2
+-- the test characters due for a frame, whatever two stand in their place: refusals 1 and 2
 abbrev pub due_of : ℕ → List ℕ → Result Pair Refusal
 due_of p f =
     and_then (procedure_of p) (λ procedure.

@@ -32,7 +32,7 @@ code_of Spm = SPM
 code_of More = MOR
 code_of Repeat = REP
 
--- what a code says in a control frame: refusal 4 at its place for any other
+-- what a code says in a control frame: refusal 4 at its place for any other, SPE too, which `named` takes out before
 abbrev pub control_of : ℕ → Result Control Refusal
 control_of c =
     if c == END then Ok End

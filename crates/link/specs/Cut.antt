@@ -19,7 +19,7 @@ use Rattle.link.specs.declared.cut.Finder.{Finder}
 abbrev pub holds : ℕ
 holds = 255
 
--- what byte b does to a receiver that holds n bytes: the first of these that applies. It is outside a frame exactly when n is 0
+-- what byte b does to a receiver that holds n bytes, 255 at most: the first of these that applies. It is outside a frame exactly when n is 0
 abbrev pub act_of : ℕ → ℕ → Act
 act_of n b =
     if b == STX then Begin
@@ -48,7 +48,7 @@ done Keep r b = (Ok None, holding (slice_set r.held r.count b) (r.count + 1))
 abbrev pub receive_of : Receiver → ℕ → Answer × Receiver
 receive_of r b = if nat_lt holds r.count then (refused BadState 0, r) else done (act_of r.count b) r b
 
--- the refusal in an answer: a loss counts as a frame refused 2
+-- the refusal that the rules see in an answer: they count a loss as a frame refused 2, though the receiver itself refuses its count alone, 11
 abbrev pub refusal_of : Option Received → Result (Unit {0}) Refusal
 refusal_of None = Ok tt
 refusal_of (Some (Frame n)) = Ok tt
@@ -97,12 +97,12 @@ abbrev pub frame_of : Handed → Option (List ℕ)
 frame_of none = None
 frame_of (after e f) = Some f
 
--- where the finder goes on: past the frame, or nowhere else
+-- where the finder goes on: past the frame; where there is none, it stays
 abbrev pub past : Handed → ℕ → ℕ
 past none start = start
 past (after e f) start = e
 
--- the finder's next frame, as a part of the capture, and the finder past it
+-- the finder's next frame, told by its bytes, and the finder past it
 abbrev pub FindsNext : Finder → Option (Bor (List ℕ)) → Finder → Type 0
 FindsNext s r t =
     (option_copied r ≡ frame_of (first_from s.capture.now s.start))
@@ -147,7 +147,7 @@ frames_left f = frames_of (drop f.start f.capture.now)
 
 -- ---- the receiver fed a run of bytes, up to the first event
 
--- an answer, with the receiver then and how many bytes were used; `go` is what the bytes after them give
+-- an answer, with the receiver then and how many bytes were used so far; `go` is what the bytes after them give
 abbrev pub fed_next : Answer × Receiver → ℕ → (Receiver → Result (Option Fed) Refusal × Receiver) → Result (Option Fed) Refusal × Receiver
 fed_next (Ok None, r) used go = go r
 fed_next (Ok (Some x), r) used go = (Ok (Some (record { received = x; used = used })), r)

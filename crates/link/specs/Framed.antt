@@ -10,7 +10,7 @@ use Rattle.link.specs.declared.cut.Receiver.{Receiver}
 abbrev pub Plain : ℕ → Type 0
 Plain b = (b ≢ STX) × (b ≢ CR)
 
--- STX first, CR last, neither in between; 2 to 255 bytes
+-- a frame as the receiver cuts it: STX first, CR last, neither in between; 2 to 255 bytes
 pub record Framed (f : List ℕ) : Type 0 where
   pub least : 2 ≤ length f
   pub most : length f ≤ holds

@@ -1,4 +1,4 @@
--- The definitions that the contracts of the crate cite, in the order of the rules.
+-- The definitions that the contracts of the crate cite, each after those that it builds on.
 pub mod Refusals
 pub mod Settings
 pub mod Characters

@@ -29,7 +29,7 @@ kind_of k =
     else if k == 0x44 then Ok D
     else refused Unknown 3
 
--- what byte 2, the code, and byte 3 say
+-- what byte 2, the code, and byte 3 say: with SPE a result frame, of a strip
 abbrev pub named : ℕ → ℕ → Result Outer Refusal
 named code k =
     if code == SPE then and_then (kind_of k) (λ kind. Ok (Strip kind))

@@ -27,12 +27,12 @@ space = 32
 abbrev pub digit_of : ℕ → ℕ
 digit_of c = (c + 2) % 10
 
--- the decimal digits of n, with no leading zero, before r: at most one more than f of them
+-- the last f + 1 decimal digits of n before r: all of them, with no leading zero, where n has no more
 unfoldable pub dec_to : ℕ → ℕ → List ℕ → List ℕ
 dec_to zero n r = (48 + n % 10) ∷ r
 dec_to (suc f) n r = if nat_lt n 10 then (48 + n % 10) ∷ r else dec_to f (n / 10) ((48 + n % 10) ∷ r)
 
--- t right-aligned in w characters
+-- t right-aligned in w characters; as it is, where it has more
 abbrev pub pad : ℕ → List ℕ → List ℕ
 pad w t = replicate (w - length t) space ++ t
 
