@@ -1,10 +1,11 @@
 -- A receiver that starts fresh, or sound, hands over only frames that begin with STX, end with CR and hold neither in between, and stays sound.
 -- Assumes nothing.
 use Rattle.std.proofs.Common.{◌≡◌, ℕ, ◌+◌, ◌-◌, ◌<◌, List, [], ◌∷◌, length, get_or, take, drop, set, sym, refl, ◌∙◌, subst, arith, length-set, length-take-le, get_or-set_other, get_or-take, get_or-set_same, below_more}
-use Rattle.std.specs.Prelude.{Some, None, Ok, Err}
+use Rattle.std.specs.Prelude.{Some, None, Result, Ok, Err}
 use Rattle.link.specs.Cut.{Answer, act_of, holding, done, receive_of, onward, handed_from, first_from, fresh, Handed}
 use Rattle.link.specs.Framed.{Plain, Framed, Sound, After, FramedIf}
 use Rattle.link.specs.declared.cut.Receiver.{Receiver}
+use Rattle.link.specs.declared.settings.Refusal.{Refusal}
 use Rattle.link.specs.declared.cut.Act.{Act}
 use Rattle.link.specs.declared.cut.Act.TheVariants.{Begin, Skip, Drop, Close, Keep}
 use Rattle.link.specs.declared.cut.Received.TheVariants.{Frame, Dropped}
@@ -29,18 +30,18 @@ module _ (held : List ℕ) (n b : ℕ) (H : Sound (holding held n)) where
   here : n < 255 → get_or (set held n b) n 0 ≡ b
   here h = get_or-set_same held n b 0 (omega (arith, H.long))
 
-  begins : act_of n b ≡ Begin → Sound (holding (set held 0 b) 1)
+  begins : act_of n b ≡ Ok Begin → Sound (holding (set held 0 b) 1)
   begins e =
       record {
         long = long_set 0;
         few = omega arith;
-        opens = λ p. get_or-set_same held 0 b 0 (omega (arith, H.long)) ∙ judged n b H.few Begin e;
+        opens = λ p. get_or-set_same held 0 b 0 (omega (arith, H.long)) ∙ judged n b H.few (Ok Begin) e;
         inner = λ i p q. absurd (omega arith);
       }
 
-  keeps : act_of n b ≡ Keep → Sound (holding (set held n b) (n + 1))
+  keeps : act_of n b ≡ Ok Keep → Sound (holding (set held n b) (n + 1))
   keeps e =
-      let k = judged n b H.few Keep e in
+      let k = judged n b H.few (Ok Keep) e in
       record {
         long = long_set n;
         few = omega arith;
@@ -49,9 +50,9 @@ module _ (held : List ℕ) (n b : ℕ) (H : Sound (holding held n)) where
             (λ j l z. rw (below j l) (H.inner j z l)) (λ z. rw (here k.1) (k.2, k.3)) i q p;
       }
 
-  closes : act_of n b ≡ Close → Framed (take (n + 1) (set held n b))
+  closes : act_of n b ≡ Ok Close → Framed (take (n + 1) (set held n b))
   closes e =
-      let k = judged n b H.few Close e in
+      let k = judged n b H.few (Ok Close) e in
       let f = take (n + 1) (set held n b) in
       let l : length f ≡ n + 1 = length-take-le (n + 1) (set held n b) (omega (arith, long_set n)) in
       let m : n + 1 - 1 ≡ n = omega arith in
@@ -63,18 +64,19 @@ module _ (held : List ℕ) (n b : ℕ) (H : Sound (holding held n)) where
         inner = λ i p q. rw (get_or-take (n + 1) (set held n b) i 0 (omega arith), below i (omega arith)) (H.inner i p (omega arith));
       }
 
-  by_act : (a : Act) → act_of n b ≡ a → After (done a (holding held n) b)
-  by_act Begin e = begins e
-  by_act Skip e = H
-  by_act Drop e = (refl, sound_none held H.long)
-  by_act Close e = (closes e, refl, sound_none (set held n b) (long_set n))
-  by_act Keep e = keeps e
+  by_act : (a : Result Act Refusal) → act_of n b ≡ a → After (done a (holding held n) b)
+  by_act (Err x) e = judged n b H.few (Err x) e
+  by_act (Ok Begin) e = begins e
+  by_act (Ok Skip) e = H
+  by_act (Ok Drop) e = (refl, sound_none held H.long)
+  by_act (Ok Close) e = (closes e, refl, sound_none (set held n b) (long_set n))
+  by_act (Ok Keep) e = keeps e
 
 -- one byte more
 pub received : (r : Receiver) (b : ℕ) → Sound r → After (receive_of r b)
 received r b H =
     let a = act_of r.count b in
-    subst After (sym (taken r.held r.count b H.few a refl)) (by_act r.held r.count b H a refl)
+    subst After (sym (taken r.held r.count b a refl)) (by_act r.held r.count b H a refl)
 
 onward_framed : (o : Answer × Receiver) (at : ℕ) (go : Receiver → Handed) → After o → ((r : Receiver) → Sound r → FramedIf (go r)) → FramedIf (onward o at go)
 onward_framed (Ok None, r) at go a f = f r a

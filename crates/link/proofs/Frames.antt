@@ -4,12 +4,13 @@ use Rattle.std.proofs.Common.{◌≡◌, ℕ, suc, ◌+◌, ◌-◌, ◌<◌, �
 use Rattle.std.proofs.Common.{Bor}
 use Rattle.std.proofs.lemmas.Iterator.{YieldsList}
 use Rattle.std.proofs.lemmas.Iterator.Consumers.{YieldsList-from_shown}
-use Rattle.std.specs.Prelude.{Option, Some, None, Ok, Err, slice_range}
+use Rattle.std.specs.Prelude.{Result, Option, Some, None, Ok, Err, slice_range}
 use Rattle.link.specs.Cut.{Answer, act_of, holding, done, receive_of, onward, handed_from, first_from, fresh, Handed, none, after, span_of, frame_of, listed, Event, loss, events_from, frames_in, frames_of, frames_left, past, FindsNext}
 use Rattle.link.specs.Framed.{Sound, After}
 use Rattle.link.specs.declared.cut.Receiver.{Receiver}
 use Rattle.link.specs.declared.cut.Span.{Span}
 use Rattle.link.specs.declared.cut.Finder.{Finder}
+use Rattle.link.specs.declared.settings.Refusal.{Refusal}
 use Rattle.link.specs.declared.cut.Act.{Act}
 use Rattle.link.specs.declared.cut.Act.TheVariants.{Begin, Skip, Drop, Close, Keep}
 use Rattle.link.specs.declared.cut.Received.TheVariants.{Frame, Dropped}
@@ -41,22 +42,23 @@ module _ (g h : List ℕ) (n b : ℕ) (A : Alike g h n) where
   reset = record { one = A.one; two = A.two; few = omega arith; same = refl }
 
 module _ (bs : List ℕ) (ih : (g h : List ℕ) (n : ℕ) → Alike g h n → events_from (holding g n) bs ≡ events_from (holding h n) bs) where
-  alike_act : (g h : List ℕ) (n b : ℕ) → Alike g h n → (a : Act) → act_of n b ≡ a
+  alike_act : (g h : List ℕ) (n b : ℕ) → Alike g h n → (a : Result Act Refusal) → act_of n b ≡ a
       → listed (done a (holding g n) b) (λ r. events_from r bs) ≡ listed (done a (holding h n) b) (λ r. events_from r bs)
-  alike_act g h n b A Begin e = ih (set g 0 b) (set h 0 b) 1 (more g h 0 b (reset g h n b A) (omega arith))
-  alike_act g h n b A Skip e = ih g h n A
-  alike_act g h n b A Drop e = ap (λ (es : List Event). loss ∷ es) (ih g h 0 (reset g h n b A))
-  alike_act g h n b A Close e =
-      let B = more g h n b A (judged n b A.few Close e).1 in
+  alike_act g h n b A (Err x) e = refl
+  alike_act g h n b A (Ok Begin) e = ih (set g 0 b) (set h 0 b) 1 (more g h 0 b (reset g h n b A) (omega arith))
+  alike_act g h n b A (Ok Skip) e = ih g h n A
+  alike_act g h n b A (Ok Drop) e = ap (λ (es : List Event). loss ∷ es) (ih g h 0 (reset g h n b A))
+  alike_act g h n b A (Ok Close) e =
+      let B = more g h n b A (judged n b A.few (Ok Close) e).1 in
       rw (B.same, ih (set g n b) (set h n b) 0 (reset (set g n b) (set h n b) (n + 1) b B))
-  alike_act g h n b A Keep e = ih (set g n b) (set h n b) (n + 1) (more g h n b A (judged n b A.few Keep e).1)
+  alike_act g h n b A (Ok Keep) e = ih (set g n b) (set h n b) (n + 1) (more g h n b A (judged n b A.few (Ok Keep) e).1)
 
 pub alike : (bs g h : List ℕ) (n : ℕ) → Alike g h n → events_from (holding g n) bs ≡ events_from (holding h n) bs
 alike [] g h n A = refl
 alike (b ∷ bs) g h n A =
     let a = act_of n b in
     let go = λ (o : Answer × Receiver). listed o (λ r. events_from r bs) in
-    ap go (taken g n b A.few a refl) ∙ alike_act bs (alike bs) g h n b A a refl ∙ ap go (sym (taken h n b A.few a refl))
+    ap go (taken g n b a refl) ∙ alike_act bs (alike bs) g h n b A a refl ∙ ap go (sym (taken h n b a refl))
 
 -- the frames of a receiver
 abbrev pub frames_from : Receiver → List ℕ → List (List ℕ)

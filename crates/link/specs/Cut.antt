@@ -19,14 +19,15 @@ use Rattle.link.specs.declared.cut.Finder.{Finder}
 abbrev pub holds : ℕ
 holds = 255
 
--- what byte b does to a receiver that holds n bytes, 255 at most: the first of these that applies. It is outside a frame exactly when n is 0
-abbrev pub act_of : ℕ → ℕ → Act
+-- what byte b does to a receiver that holds n bytes: the first of these that applies. It is outside a frame exactly when n is 0
+abbrev pub act_of : ℕ → ℕ → Result Act Refusal
 act_of n b =
-    if b == STX then Begin
-    else if n == 0 then Skip
-    else if n == holds then Drop
-    else if b == CR then Close
-    else Keep
+    if nat_lt holds n then refused BadState 0
+    else if b == STX then Ok Begin
+    else if n == 0 then Ok Skip
+    else if n == holds then Ok Drop
+    else if b == CR then Ok Close
+    else Ok Keep
 
 -- a receiver's answer: what it met, if anything, or a refusal
 abbrev pub Answer : Type 0
@@ -37,16 +38,16 @@ abbrev pub holding : List ℕ → ℕ → Receiver
 holding held n = record { held = held; count = n }
 
 -- the answer, and the receiver as it is left
-abbrev pub done : Act → Receiver → ℕ → Answer × Receiver
-done Begin r b = (Ok None, holding (slice_set r.held 0 b) 1)
-done Skip r b = (Ok None, r)
-done Drop r b = (Ok (Some Dropped), holding r.held 0)
-done Close r b = (Ok (Some (Frame (r.count + 1))), holding (slice_set r.held r.count b) 0)
-done Keep r b = (Ok None, holding (slice_set r.held r.count b) (r.count + 1))
+abbrev pub done : Result Act Refusal → Receiver → ℕ → Answer × Receiver
+done (Err e) r b = (Err e, r)
+done (Ok Begin) r b = (Ok None, holding (slice_set r.held 0 b) 1)
+done (Ok Skip) r b = (Ok None, r)
+done (Ok Drop) r b = (Ok (Some Dropped), holding r.held 0)
+done (Ok Close) r b = (Ok (Some (Frame (r.count + 1))), holding (slice_set r.held r.count b) 0)
+done (Ok Keep) r b = (Ok None, holding (slice_set r.held r.count b) (r.count + 1))
 
--- a count over 255 is refused, 11
 abbrev pub receive_of : Receiver → ℕ → Answer × Receiver
-receive_of r b = if nat_lt holds r.count then (refused BadState 0, r) else done (act_of r.count b) r b
+receive_of r b = done (act_of r.count b) r b
 
 -- the refusal that the rules see in an answer: they count a loss as a frame refused 2, though the receiver itself refuses its count alone, 11
 abbrev pub refusal_of : Option Received → Result (Unit {0}) Refusal

@@ -21,11 +21,14 @@ pub enum Act {
     Keep,
 }
 
-// To one that holds `count` bytes, of 255 at most.
-fn judge(count: usize, byte: u8) -> Act
+// To one that holds `count` bytes: refusal 11 over 255.
+fn judge(count: usize, byte: u8) -> Result<Act, Refusal>
     ensures { result ≡ act_of count byte }
 {
-    if byte == STX {
+    if HOLDS < count {
+        return Err(Why::BadState.into());
+    }
+    Ok(if byte == STX {
         Act::Begin
     } else if count == 0 {
         Act::Skip
@@ -35,7 +38,7 @@ fn judge(count: usize, byte: u8) -> Act
         Act::Close
     } else {
         Act::Keep
-    }
+    })
 }
 
 // What a receiver meets. It holds nothing after either.
@@ -56,7 +59,7 @@ pub struct Fed {
 
 // The receiver: 255 bytes, of which it holds the first `count`. A count over 255 is refused 11, so it is a number and no list's length.
 // It has no `==`, since what stands past the count means nothing.
-#[derive(Clone, Copy)]
+#[derive(Clone, Copy, Debug)]
 pub struct Receiver {
     pub held: [u8; HOLDS],
     pub count: usize,
@@ -78,10 +81,7 @@ impl Receiver {
     pub fn receive(&mut self, byte: u8) -> Result<Option<Received>, Refusal>
         ensures { (result, self.new) ≡ receive_of self.old byte }
     {
-        if HOLDS < self.count {
-            return Err(Why::BadState.into());
-        }
-        match judge(self.count, byte) {
+        match judge(self.count, byte)? {
             Act::Begin => {
                 self.held[0] = byte;
                 self.count = 1;
@@ -147,16 +147,18 @@ pub fn locate(capture: &[u8], start: usize) -> Option<Span>
     let mut count: usize = 0;
     for at in start..capture.len() {
         count = match judge(count, capture[at]) {
-            Act::Begin => 1,
-            Act::Keep => count + 1,
-            Act::Close => {
+            Ok(Act::Begin) => 1,
+            Ok(Act::Keep) => count + 1,
+            Ok(Act::Close) => {
                 let len = count + 1;
                 return Some(Span {
                     at: at + 1 - len,
                     len,
                 });
             }
-            Act::Skip | Act::Drop => 0,
+            Ok(Act::Skip) => 0,
+            Ok(Act::Drop) => 0,
+            Err(_) => 0,
         };
     }
     None
