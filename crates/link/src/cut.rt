@@ -21,7 +21,7 @@ pub enum Act {
     Keep,
 }
 
-// To one that holds `count` bytes: refusal 11 over 255.
+// To one that holds `count` bytes: refusal 11 over 255. Receiver and finder both match on the act.
 fn judge(count: usize, byte: u8) -> Result<Act, Refusal>
     ensures { result ≡ act_of count byte }
 {
@@ -139,7 +139,8 @@ pub struct Span {
     pub len: usize,
 }
 
-// Where the first frame stands that a fresh receiver would hand over, fed from `start`. By places and not by items, since the answer is a place.
+// Where the first frame stands that a fresh receiver would hand over, fed from `start`.
+// Over places, since `skip` would step through all before `start`, again for each frame.
 #[tactic(auto, using(crate::proofs::Held::held_none))]
 pub fn locate(capture: &[u8], start: usize) -> Option<Span>
     ensures { result ≡ span_of (first_from capture.now start) }

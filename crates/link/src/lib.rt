@@ -1,6 +1,6 @@
 // The lowest layer of the link: its settings and refusals, test characters, control frames, and the cutting of bytes into frames.
 //
-// Every call takes any bytes and any numbers, and refuses by number and place. A refusal leaves every lent byte as it was.
+// Every call takes any bytes and any numbers, and refuses by a reason, which has a number, and a place. A refusal leaves every lent byte as it was.
 #![tactic(auto)]
 
 pub mod characters;
