@@ -16,7 +16,7 @@ returns c =
     count_from_yields_List c.take_while.result c.count.result c.count.ensures.ran
     (YieldsList-from_take_while _ alike
     (YieldsList-at c.take_while.ensures.source
-    (YieldsList-from_zip (YieldsList-at c.zip.ensures.first (YieldsList-from_slice w c.iter.ensures.rest)) (YieldsList-from_slice t (cc))))
+    (YieldsList-from_zip (YieldsList-at c.zip.ensures.first (YieldsList-from_slice w c.iter.ensures.rest)) (YieldsList-from_slice t (search rules))))
     c.take_while.ensures.closure c.take_while.ensures.done (λ x b q k. search (rules, tests)))
     ∙ length-prefix_len alike (zip w t)
     ∙ agree_zip w t
