@@ -10,7 +10,7 @@ use Rattle.link.specs.Settings.{settings_offered, offered_of, procedure_of, id_o
 use Rattle.link.specs.Characters.{STX, ETX, xor_of, hex_of, pair_of, shaped}
 use Rattle.link.specs.Control.{END, SPM, MOR, REP, code_of, control_of, control_code, control_length, control_frame, control_outcome}
 use Rattle.link.specs.Outer.{marked, named, sized, outer_of}
-use Rattle.link.specs.Cut.{Answer, act_of, holding, loss, receive_of, first_from, fresh, Handed, none, after, listed, events_from, frames_in, fed_next, fed_of}
+use Rattle.link.specs.Cut.{Answer, act_of, holding, frame, loss, receive_of, first_from, fresh, Handed, none, after, listed, events_from, frames_in, fed_next, fed_of}
 use Rattle.link.specs.Framed.{Plain, Framed, Sound, After, AllFramed}
 use Rattle.link.specs.Claims.{HandsOverFrames, Delivers, DeliversAlone, LosesAt255, HandsOverParts, met_next, met, FinderFollows, fed_events, FeedFollows, FeedGoesOn, FeedUses, control_outer, ControlPasses, ControlFramed, OneProcedure}
 use Rattle.link.specs.declared.settings.Why.TheVariants.{Unknown}
@@ -95,8 +95,9 @@ met_next_told k s start L none t ih = sym t
 met_next_told k s start L (after e f) t ih =
     let far = t.0 in
     let q : start + (e - start) ≡ e = omega arith in
-    ap (λ (fs : List (List ℕ)). f ∷ fs) (ih e far ∙ ap (λ (l : List ℕ). frames_from fresh l) (sym (drop-drop (e - start) start s ∙ ap (λ (i : ℕ). drop i s) q)))
-    ∙ sym t.2
+    let past : drop (e - start) (drop start s) ≡ drop e s = drop-drop (e - start) start s ∙ ap (λ (i : ℕ). drop i s) q in
+    let on : f ∷ met k s e ≡ f ∷ frames_from fresh (drop (e - start) (drop start s)) = ap (λ (fs : List (List ℕ)). f ∷ fs) (ih e far ∙ ap (λ (l : List ℕ). frames_from fresh l) (sym past)) in
+    on ∙ sym t.2
 
 met_all : (k : ℕ) (s : List ℕ) (start : ℕ) → length s ≤ start + k → met k s start ≡ frames_from fresh (drop start s)
 met_all zero s start h = rw (drop_of_length-le s {i = start} (omega arith))
@@ -112,8 +113,8 @@ module _ (all : List ℕ) where
       → ((r : Receiver) → fed_events (fed_of r (used + 1) bs) all ≡ events_from r bs)
       → (o : Answer × Receiver) → fed_events (fed_next o (used + 1) (λ r. fed_of r (used + 1) bs)) all ≡ listed o (λ r. events_from r bs)
   feed_next bs used e ih (Ok None, r) = ih r
-  feed_next bs used e ih (Ok (Some (Frame n)), r) = rw e
-  feed_next bs used e ih (Ok (Some Dropped), r) = rw e
+  feed_next bs used e ih (Ok (Some (Frame n)), r) = ap (λ (l : List ℕ). frame (take n r.held) ∷ events_from r l) e
+  feed_next bs used e ih (Ok (Some Dropped), r) = ap (λ (l : List ℕ). loss ∷ events_from r l) e
   feed_next bs used e ih (Err x, r) = refl
 
   feed_all : (bs : List ℕ) (r : Receiver) (used : ℕ) → drop used all ≡ bs → fed_events (fed_of r used bs) all ≡ events_from r bs
@@ -223,21 +224,24 @@ pub passes : (s : Settings) (link : Link) (f : List ℕ) → offered_of s ≡ Ok
     → outer_of s f ≡ and_then (named (get_or f 1 0) (get_or f 2 0)) (sized link.id (length f))
 passes s link f o h m = rw (o, h, m)
 
-passes_coded : (s : Settings) (c : Control) (out : List ℕ) → settings_offered s ≡ true → control_length ≤ length out
-    → outer_of s (take control_length (control_outcome s.procedure (code_of c) out).1) ≡ Ok (OuterControl (control_outer (code_of c)))
-passes_coded s c out o room =
+-- what is written for a known code is the control frame of that name
+written_as : (s : Settings) (code : ℕ) (out : List ℕ) → settings_offered s ≡ true → control_code code ≡ true → control_length ≤ length out
+    → (link : Link) × (c : Control) × (offered_of s ≡ Ok link) × (code ≡ code_of c) × (take control_length (control_outcome s.procedure code out).1 ≡ control_frame link.procedure c)
+written_as s code out o k room =
     let (link, known, procedure) = linked s o in
-    let p = link.procedure in
-    let front = STX ∷ code_of c ∷ ETX ∷ [] in
-    let written : take 6 (control_outcome s.procedure (code_of c) out).1 ≡ control_frame p c = rw (procedure, coded c, le-ltb (length out) 6 room) in
-    ap (outer_of s) written
-    ∙ passes s link (control_frame p c) known (closed_shaped p front (omega arith) (omega arith) refl refl) (closed_marked p front)
-    ∙ judged c link.id
+    let (c, e) = which code k in
+    let framed : take 6 (control_outcome s.procedure (code_of c) out).1 ≡ control_frame link.procedure c = rw (procedure, coded c, le-ltb (length out) 6 room) in
+    (link, c, known, e, ap (λ (x : ℕ). take 6 (control_outcome s.procedure x out).1) e ∙ framed)
 
 pub control_passes : ControlPasses
 control_passes s code out o k room =
-    let (c, e) = which code k in
-    subst (λ (x : ℕ). outer_of s (take control_length (control_outcome s.procedure x out).1) ≡ Ok (OuterControl (control_outer x))) (sym e) (passes_coded s c out o room)
+    let (link, c, known, e, written) = written_as s code out o k room in
+    let p = link.procedure in
+    let front = STX ∷ code_of c ∷ ETX ∷ [] in
+    ap (outer_of s) written
+    ∙ passes s link (control_frame p c) known (closed_shaped p front (omega arith) (omega arith) refl refl) (closed_marked p front)
+    ∙ judged c link.id
+    ∙ ap (λ (x : ℕ). Ok (OuterControl (control_outer x))) (sym e)
 
 -- and is a frame so formed
 plain_code : (c : Control) → Plain (code_of c)
@@ -246,17 +250,10 @@ plain_code Spm = (omega arith, omega arith)
 plain_code More = (omega arith, omega arith)
 plain_code Repeat = (omega arith, omega arith)
 
-framed_coded : (s : Settings) (c : Control) (out : List ℕ) → settings_offered s ≡ true → control_length ≤ length out
-    → Framed (take control_length (control_outcome s.procedure (code_of c) out).1)
-framed_coded s c out o room =
-    let (link, known, procedure) = linked s o in
-    let written : take 6 (control_outcome s.procedure (code_of c) out).1 ≡ control_frame link.procedure c = rw (procedure, coded c, le-ltb (length out) 6 room) in
-    subst Framed (sym written) (control_framed link.procedure (code_of c) (plain_code c))
-
 pub control_is_framed : ControlFramed
 control_is_framed s code out o k room =
-    let (c, e) = which code k in
-    subst (λ (x : ℕ). Framed (take control_length (control_outcome s.procedure x out).1)) (sym e) (framed_coded s c out o room)
+    let (link, c, known, e, written) = written_as s code out o k room in
+    subst Framed (sym written) (control_framed link.procedure (code_of c) (plain_code c))
 
 -- ---- no test characters fit both procedures: the lowest bits of XOR and sum are equal, those of STX and ETX are not
 xor_parity : (a : ℕ) (bs : List ℕ) → fold bit_xor a bs % 2 ≡ (a + sum bs) % 2
