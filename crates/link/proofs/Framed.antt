@@ -35,13 +35,13 @@ module _ (held : List ℕ) (n b : ℕ) (H : Sound (holding held n)) where
       record {
         long = long_set 0;
         few = omega arith;
-        opens = λ p. get_or-set_same held 0 b 0 (omega (arith, H.long)) ∙ judged n b H.few (Ok Begin) e;
+        opens = λ p. get_or-set_same held 0 b 0 (omega (arith, H.long)) ∙ (judged n b (Ok Begin) e).1;
         inner = λ i p q. absurd (omega arith);
       }
 
   keeps : act_of n b ≡ Ok Keep → Sound (holding (set held n b) (n + 1))
   keeps e =
-      let k = judged n b H.few (Ok Keep) e in
+      let k = judged n b (Ok Keep) e in
       record {
         long = long_set n;
         few = omega arith;
@@ -52,7 +52,7 @@ module _ (held : List ℕ) (n b : ℕ) (H : Sound (holding held n)) where
 
   closes : act_of n b ≡ Ok Close → Framed (take (n + 1) (set held n b))
   closes e =
-      let k = judged n b H.few (Ok Close) e in
+      let k = judged n b (Ok Close) e in
       let f = take (n + 1) (set held n b) in
       let l : length f ≡ n + 1 = length-take-le (n + 1) (set held n b) (omega (arith, long_set n)) in
       let m : n + 1 - 1 ≡ n = omega arith in
@@ -65,7 +65,7 @@ module _ (held : List ℕ) (n b : ℕ) (H : Sound (holding held n)) where
       }
 
   by_act : (a : Result Act Refusal) → act_of n b ≡ a → After (done a (holding held n) b)
-  by_act (Err x) e = judged n b H.few (Err x) e
+  by_act (Err x) e = let k = judged n b (Err x) e in absurd (omega (arith, H.few))
   by_act (Ok Begin) e = begins e
   by_act (Ok Skip) e = H
   by_act (Ok Drop) e = (refl, sound_none held H.long)

@@ -5,7 +5,7 @@ use Rattle.std.proofs.Common.{Bor}
 use Rattle.std.proofs.lemmas.Iterator.{YieldsList}
 use Rattle.std.proofs.lemmas.Iterator.Consumers.{YieldsList-from_shown}
 use Rattle.std.specs.Prelude.{Result, Option, Some, None, Ok, Err, slice_range}
-use Rattle.link.specs.Cut.{Answer, act_of, holding, done, receive_of, onward, handed_from, first_from, fresh, Handed, none, after, span_of, frame_of, listed, Event, loss, events_from, frames_in, frames_of, frames_left, past, FindsNext}
+use Rattle.link.specs.Cut.{Answer, act_of, holding, done, receive_of, onward, handed_from, first_from, fresh, Handed, none, after, span_of, bytes_of, frame_of, listed, Event, loss, events_from, frames_in, frames_of, frames_left, past, FindsNext}
 use Rattle.link.specs.Framed.{Sound, After}
 use Rattle.link.specs.declared.cut.Receiver.{Receiver}
 use Rattle.link.specs.declared.cut.Span.{Span}
@@ -49,9 +49,9 @@ module _ (bs : List ℕ) (ih : (g h : List ℕ) (n : ℕ) → Alike g h n → ev
   alike_act g h n b A (Ok Skip) e = ih g h n A
   alike_act g h n b A (Ok Drop) e = ap (λ (es : List Event). loss ∷ es) (ih g h 0 (reset g h n b A))
   alike_act g h n b A (Ok Close) e =
-      let B = more g h n b A (judged n b A.few (Ok Close) e).1 in
+      let B = more g h n b A (judged n b (Ok Close) e).1 in
       rw (B.same, ih (set g n b) (set h n b) 0 (reset (set g n b) (set h n b) (n + 1) b B))
-  alike_act g h n b A (Ok Keep) e = ih (set g n b) (set h n b) (n + 1) (more g h n b A (judged n b A.few (Ok Keep) e).1)
+  alike_act g h n b A (Ok Keep) e = ih (set g n b) (set h n b) (n + 1) (more g h n b A (judged n b (Ok Keep) e).1)
 
 pub alike : (bs g h : List ℕ) (n : ℕ) → Alike g h n → events_from (holding g n) bs ≡ events_from (holding h n) bs
 alike [] g h n A = refl
@@ -178,6 +178,20 @@ module _ (s : List ℕ) (start : ℕ) where
 
   pub found_none : None ≡ span_of (first_from s start) → first_from s start ≡ none
   found_none e = found None e
+
+-- the part itself is what is handed over
+bytes_part : (x : Handed) (f : List ℕ) → frame_of x ≡ Some f → f ≡ bytes_of x
+bytes_part none f e = cc
+bytes_part (after n g) f e = let p : g ≡ f = cc in sym p
+
+module _ (s : List ℕ) (start : ℕ) where
+  pub found_part : (r : Span) → Some r ≡ span_of (first_from s start) → slice_range s r.at (r.at + r.len) ≡ bytes_of (first_from s start)
+  found_part r e = bytes_part (first_from s start) (slice_range s r.at (r.at + r.len)) (found_bytes s start r e)
+
+  pub found_empty : None ≡ span_of (first_from s start) → bytes_of (first_from s start) ≡ []
+  found_empty e = rw (found_none s start e)
+
+pub ruleset parts = (found_inside, found_part, found_empty)
 
 pub ruleset finds = (found_inside, found_bytes, found_onto, found_fewer, found_none)
 

@@ -56,10 +56,10 @@ module _ (s : List ℕ) (start : ℕ) where
         ∙ H.run
 
     does : (a : Result Act Refusal) → act ≡ a → Judged n (get_or s at 0) a
-    does a e = judged n (get_or s at 0) H.few a (sym was ∙ e)
+    does a e = judged n (get_or s at 0) a (sym was ∙ e)
 
     pub refused_not : (x : Refusal) → act ≡ Err x → ⊥
-    refused_not x e = does (Err x) e
+    refused_not x e = let k = does (Err x) e in absurd (omega (arith, H.few))
 
     -- nothing is held from here on
     clear : (k : ℕ) → handed_from (holding H.held k) (at + 1) (drop (at + 1) s) ≡ first_from s start → k ≡ 0 → Held s start 0 (at + 1)
@@ -93,7 +93,7 @@ module _ (s : List ℕ) (start : ℕ) where
         }
 
     pub held_skip : act ≡ Ok Skip → Held s start 0 (at + 1)
-    held_skip e = clear n (fed (Ok Skip) e) (does (Ok Skip) e)
+    held_skip e = clear n (fed (Ok Skip) e) (does (Ok Skip) e).0
 
     pub held_drop : act ≡ Ok Drop → Held s start 0 (at + 1)
     held_drop e = clear 0 (fed (Ok Drop) e) refl

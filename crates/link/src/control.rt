@@ -7,6 +7,9 @@ use crate::settings::{Procedure, Refusal, Why};
 
 pub const CONTROL_LENGTH: usize = 6;
 
+// The code of a result frame, which no control frame has.
+pub const SPE: u8 = b';';
+
 // What a control frame says, by its code: END, SPM, MOR and REP. The reader's ANY is the host's MOR.
 #[derive(Clone, Copy, Debug, PartialEq, Eq)]
 pub enum Control {

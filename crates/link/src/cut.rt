@@ -166,10 +166,14 @@ pub fn locate(capture: &[u8], start: usize) -> Option<Span>
 }
 
 // The first frame itself, as a part of the capture: an empty one where there is none, as the rules have it. For one frame after the other, `Finder`.
+#[tactic(auto, using(crate::proofs::Frames::parts))]
 pub fn find(capture: &[u8], start: usize) -> &[u8]
     ensures { result.now ≡ bytes_of (first_from capture.now start) }
 {
-    Finder { capture, start }.next().unwrap_or(&[])
+    match locate(capture, start) {
+        Some(s) => &capture[s.at..s.at + s.len],
+        None => &capture[..0],
+    }
 }
 
 // The finder: the frames of a capture from `start` on, one after the other, as parts of it.

@@ -3,11 +3,8 @@ ghost use Rattle.std.specs.Prelude.{◌≡◌};
 ghost use Rattle.link.specs.Outer.{kind_of, strip_length, named, length_of, outer_of};
 
 use crate::characters::Shaped;
-use crate::control::{CONTROL_LENGTH, Control};
+use crate::control::{CONTROL_LENGTH, Control, SPE};
 use crate::settings::{IdLength, Refusal, Settings, Why, offered};
-
-// The code of a result frame.
-const SPE: u8 = 0x3B;
 
 // What a result frame tells of: results, or colour and turbidity.
 #[derive(Clone, Copy, Debug, PartialEq, Eq)]

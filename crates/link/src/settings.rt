@@ -75,6 +75,15 @@ pub struct Settings {
     pub id: u8,
 }
 
+// The letters of the test procedures, and the lengths of an ID, as settings have them.
+pub const PROCEDURE_A: u8 = b'a';
+
+pub const PROCEDURE_B: u8 = b'b';
+
+pub const SHORT_ID: u8 = 10;
+
+pub const LONG_ID: u8 = 13;
+
 // The test procedures that are offered, by their letters.
 #[derive(Clone, Copy, Debug, PartialEq, Eq)]
 pub enum Procedure {
@@ -89,8 +98,8 @@ impl TryFrom<u8> for Procedure {
 
     fn try_from(letter: u8) -> Result<Self, Refusal> {
         match letter {
-            b'a' => Ok(Procedure::A),
-            b'b' => Ok(Procedure::B),
+            PROCEDURE_A => Ok(Procedure::A),
+            PROCEDURE_B => Ok(Procedure::B),
             _ => Err(Why::NotOffered.into()),
         }
     }
@@ -110,8 +119,8 @@ impl TryFrom<u8> for IdLength {
 
     fn try_from(length: u8) -> Result<Self, Refusal> {
         match length {
-            10 => Ok(IdLength::Short),
-            13 => Ok(IdLength::Long),
+            SHORT_ID => Ok(IdLength::Short),
+            LONG_ID => Ok(IdLength::Long),
             _ => Err(Why::NotOffered.into()),
         }
     }

@@ -3,17 +3,16 @@
 use Prim.Native.Nat.{ℕ, zero, suc, ◌+◌, ◌-◌, ◌/◌, ◌%◌, ◌≤◌, ◌<◌}
 use mathlib.Core.Path.{◌≡◌, refl, sym, ap, ap₂, ◌∙◌}
 use mathlib.Core.Bool.{Bool, true, false}
-use Rattle.std.specs.Prelude.{Some}
+use Rattle.std.specs.Prelude.{Some, min}
 use mathlib.Core.List.{List, [], ◌∷◌, ◌++◌, append-nil}
 use lib.Dec.{eqb}
 use lib.Pointwise.{pointwise}
-use lib.ListN.{length, take, drop, get_or, set}
+use lib.ListN.{length, take, drop, get_or, set, drop_of_length-le}
 use lib.Seq.{drop-cons, drop-length, set_split, drop_at, length-take-le}
 use native.Mathlib.Omega.{arith}
 use native.Mathlib.Numerals.{add-one}
 use borrow.Author.Tests.{eqb-true, eq-eqb, lt-ltb, le-ltb}
 use Rattle.std.proofs.Common.{if◌then◌else◌}
-use Rattle.std.specs.List.{prefix_len, zip}
 use Rattle.text.specs.Text.{eq_l, agree, first_with, dec_to}
 
 pub eq_l-refl : (a : List ℕ) → eq_l a a ≡ true
@@ -101,12 +100,13 @@ eq_l_pointwise [] (y ∷ ys) = refl
 eq_l_pointwise (x ∷ xs) [] = refl
 eq_l_pointwise (x ∷ xs) (y ∷ ys) = grind (arith, eq_l_pointwise xs ys)
 
--- two bytes side by side, the same
-abbrev pub alike : ℕ × ℕ → Bool
-alike p = eqb p.1 p.0
+agree_none : (w : List ℕ) → agree w [] ≡ 0
+agree_none [] = refl
+agree_none (b ∷ w) = refl
 
--- how many such pairs there are from the front on
-pub agree_zip : (w t : List ℕ) → prefix_len alike (zip w t) ≡ agree w t
-agree_zip [] t = refl
-agree_zip (b ∷ w) [] = refl
-agree_zip (b ∷ w) (x ∷ t) = grind (arith, agree_zip w t)
+-- a comparison byte by byte ends where the shorter run does
+pub agree_end : (w t : List ℕ) (i : ℕ) → min (length w) (length t) ≤ i → agree (drop i w) (drop i t) ≡ 0
+agree_end [] t i h = let z : length {A = ℕ} [] ≤ i = omega arith in rw (drop_of_length-le [] z) refl
+agree_end (b ∷ w) [] i h = let z : length {A = ℕ} [] ≤ i = omega arith in rw (drop_of_length-le [] z) (agree_none (drop i (b ∷ w)))
+agree_end (b ∷ w) (x ∷ t) zero h = absurd (omega arith)
+agree_end (b ∷ w) (x ∷ t) (suc i) h = agree_end w t i (omega arith)

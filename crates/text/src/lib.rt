@@ -15,10 +15,17 @@ pub fn same(a: &[u8], b: &[u8]) -> bool
 }
 
 // How many bytes of word stand at the front of part, up to the first that does not.
+#[tactic(auto, using(crate::proofs::Texts::agree_end))]
 pub fn agree(word: &[u8], part: &[u8]) -> usize
     ensures { result ≡ agree word.now part.now }
 {
-    word.iter().zip(part).take_while(|(w, p)| p == w).count()
+    let end = word.len().min(part.len());
+    for i in 0..end {
+        if part[i] != word[i] {
+            return i;
+        }
+    }
+    end
 }
 
 // The digit that c is, if it is one.
